@@ -1,0 +1,11 @@
+pub mod Players
+pub mod Subgames
+pub mod ArcWalks
+pub mod Attractor
+pub mod Splits
+pub mod Determined
+pub mod Disjoint
+pub mod Regions
+pub mod Swap
+pub mod Hold
+pub mod Example

@@ -1,0 +1,3 @@
+pub mod Statements
+pub mod Layers
+pub mod Example

@@ -1,0 +1,5 @@
+pub mod Game
+pub mod Plans
+pub mod Layers
+pub mod Dictionary
+pub mod Loops

@@ -1,0 +1,5 @@
+pub mod Choose
+pub mod Rows
+pub mod Registers
+pub mod Theorems
+pub mod Views
