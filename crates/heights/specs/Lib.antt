@@ -1,0 +1,6 @@
+pub mod Climb
+pub mod Heights
+pub mod Sweeps
+pub mod Ladder
+pub mod Theorems
+pub mod Replies

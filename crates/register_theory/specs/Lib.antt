@@ -1,0 +1,4 @@
+pub mod Doubling
+pub mod Kept
+pub mod Groups
+pub mod First
