@@ -48,6 +48,13 @@ impl Scale {
         Scale { n, r, limit, steps }
     }
 
+    // The lost height.
+    pub fn limit(&self) -> u32
+        ensures { λ y. ⌜ y ≡ lost (now (self .entry) .n) (now (self .entry) .r) ⌝ }
+    {
+        self.limit
+    }
+
     // The step of priority p.
     fn step(&self, p: u8) -> u32
         requires { ⌜ p ≤ 2 * now self .r + 1 ⌝ }
