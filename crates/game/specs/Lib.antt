@@ -3,3 +3,4 @@ pub mod Plans
 pub mod Layers
 pub mod Dictionary
 pub mod Loops
+pub mod Lowest

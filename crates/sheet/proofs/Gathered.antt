@@ -8,6 +8,7 @@ use native.Mathlib.Nat.{add-zero, add-suc, suc-add}
 use native.Mathlib.Omega.{arith}
 use lib.ListN.{length, getD, replicate, length-append}
 use Rattle.std.proofs.shelf.Tests.{cases-lt}
+use Rattle.game.specs.Lowest.{Lowest-without}
 use Rattle.game.specs.declared.Player.{Player}
 use Rattle.game.specs.declared.Arc.{Arc}
 use Rattle.arena.specs.declared.named.Name.{Name}
@@ -18,7 +19,7 @@ use Rattle.sheet.specs.declared.fault.ReadFault.the-variants.{Refused, Memory}
 use Rattle.sheet.specs.Layout.{positions, records, firstRecord, nextRecord, moverByte, nameBytes, Recorded}
 use Rattle.sheet.specs.Chains.{Leads, Chains, flat, occurrences, arcOf, moverOf, mended, siteAt, described, Fits, Describes}
 use Rattle.sheet.specs.Chains.Leads.{here, along}
-use Rattle.sheet.specs.Refusals.{Lowest-without, Comes-again, Never-comes}
+use Rattle.sheet.specs.Refusals.{Comes-again, Never-comes}
 use Rattle.sheet.specs.Reading.{bit, Marks-added, Chain-read, Marked-twice, Chain-stopped, Position-read, All-read, All-stopped, All-marked}
 use Rattle.sheet.proofs.Marks.{occurrences-append}
 

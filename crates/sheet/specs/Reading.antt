@@ -5,6 +5,7 @@ use mathlib.Core.List.{List, map}
 use Prim.Native.Nat.{ℕ, _+_, _<_, _≤_}
 use lib.ListN.{length, getD, replicate}
 use Rattle.std.specs.Of.Vec.{vec-items}
+use Rattle.game.specs.Lowest.{Lowest-without}
 use Rattle.game.specs.declared.Arc.{Arc}
 use Rattle.table.specs.declared.position.Position.{Position as Place}
 use Rattle.table.specs.Sites.{Site, siteOf, sitesOf}
@@ -14,7 +15,7 @@ use Rattle.sheet.specs.declared.fault.ReadFault.{ReadFault}
 use Rattle.sheet.specs.declared.fault.ReadFault.the-variants.{Refused, Memory}
 use Rattle.sheet.specs.Layout.{positions, records, firstRecord}
 use Rattle.sheet.specs.Chains.{Leads, Chains, flat, occurrences, arcOf, siteAt, described}
-use Rattle.sheet.specs.Refusals.{Lowest-without, Comes-again, Refuses}
+use Rattle.sheet.specs.Refusals.{Comes-again, Refuses}
 
 abbrev pub bit : Bool → ℕ
 bit true = 1

@@ -5,6 +5,7 @@ use mathlib.Core.Logic.{_⊎_}
 use mathlib.Core.List.{List, _++_}
 use Prim.Native.Nat.{ℕ, _+_, _*_, _<_, _≤_}
 use lib.ListN.{length}
+use Rattle.game.specs.Lowest.{Lowest-without}
 use Rattle.sheet.specs.declared.fault.SheetFault.{SheetFault}
 use Rattle.sheet.specs.declared.fault.SheetFault.the-variants.{Short, Version, Large, Length, Position, Record, Repeated, Unused}
 use Rattle.sheet.specs.Layout.{byte, positions, records, firstRecord, Opened, Sized, Headed, Placed, Recorded, Position-fits, Record-fits}
@@ -29,13 +30,6 @@ placeOf (Position v) = v
 placeOf (Record k) = k
 placeOf (Repeated k) = k
 placeOf (Unused k) = k
-
--- Number i is the lowest, from the given one up to but not including the end, of which P does not hold.
-pub record Lowest-without (P : ℕ → Type 0) (start end i : ℕ) : Type 0 where
-  pub from-start : start ≤ i
-  pub before-end : i < end
-  pub lacks : P i → ⊥
-  pub below-have : (j : ℕ) → start ≤ j → j < i → P j
 
 -- Going through the chains from position 0's on, and having come to no record twice, one comes to record k again: after the whole
 -- chains of the positions before some position, and the begun chain of that one.

@@ -6,13 +6,14 @@ use Prim.Native.Nat.{ℕ, zero, suc, _+_, _-_, _*_, _<_, _≤_}
 use native.Mathlib.Omega.{arith}
 use lib.ListN.{length, getD, length-append}
 use Rattle.std.proofs.shelf.Tests.{cases-lt, cases-eq}
+use Rattle.game.specs.Lowest.{Lowest-without}
 use Rattle.table.specs.Sites.{Site}
 use Rattle.sheet.specs.declared.fault.SheetFault.{SheetFault}
 use Rattle.sheet.specs.declared.fault.SheetFault.the-variants.{Short, Version, Large, Length, Position, Record, Repeated, Unused}
 use Rattle.sheet.specs.Layout.{byte, positions, records, moverByte, firstRecord, nameBytes, priorityByte, targetByte, nextRecord, Opened, Sized, Headed, Placed, Recorded, Position-fits, Record-fits, All-visible}
 use Rattle.sheet.specs.Chains.{Leads, Chains, flat, occurrences, Fits, described, Describes}
 use Rattle.sheet.specs.Chains.Leads.{here, along}
-use Rattle.sheet.specs.Refusals.{Lowest-without, Comes-again, Never-comes, Refuses}
+use Rattle.sheet.specs.Refusals.{Comes-again, Never-comes, Refuses}
 use Rattle.sheet_theory.specs.Complete.{Faults-complete}
 use Rattle.sheet.proofs.Marks.{leads-more, occurrences-append, occurs-itself, occurs-apart}
 use Rattle.sheet.proofs.Gathered.{leads-within, flat-push, chains-push}

@@ -8,13 +8,14 @@ use native.Mathlib.Omega.{arith}
 use lib.Dec.{eqb}
 use lib.ListN.{length, getD, take, length-take}
 use Rattle.std.proofs.shelf.Tests.{cases-order, cases-lt}
+use Rattle.game.specs.Lowest.{Lowest-without}
 use Rattle.table.specs.Sites.{Site}
 use Rattle.sheet.specs.declared.fault.SheetFault.{SheetFault}
 use Rattle.sheet.specs.declared.fault.SheetFault.the-variants.{Short, Version, Large, Length, Position, Record, Repeated, Unused}
 use Rattle.sheet.specs.Layout.{byte, positions, records, firstRecord, nextRecord, Opened, Sized, Headed, Placed, Recorded, Position-fits, Record-fits}
 use Rattle.sheet.specs.Chains.{Leads, Chains, flat, occurrences, Fits, described, Describes}
 use Rattle.sheet.specs.Chains.Leads.{here, along}
-use Rattle.sheet.specs.Refusals.{numberOf, placeOf, Lowest-without, Comes-again, Never-comes, Refuses}
+use Rattle.sheet.specs.Refusals.{numberOf, placeOf, Comes-again, Never-comes, Refuses}
 use Rattle.sheet.proofs.Marks.{occurrences-append, occurs-itself}
 use Rattle.sheet.proofs.Gathered.{leads-within}
 
