@@ -8,6 +8,7 @@ use native.Mathlib.Omega.{arith}
 use lib.Dec.{eqb}
 use lib.ListN.{length, getD, take, length-take}
 use Rattle.std.proofs.shelf.Tests.{cases-order, cases-lt}
+use Rattle.toolkit.proofs.Lists.{same-lists-by}
 use Rattle.game.specs.Lowest.{Lowest-without}
 use Rattle.table.specs.Sites.{Site}
 use Rattle.sheet.specs.declared.fault.SheetFault.{SheetFault}
@@ -53,15 +54,6 @@ chains-take {s} {v} {chains = chains} whole h = record {
   count = let n = whole .count in length-take v chains ∙ omega arith;
   ended = λ u below. rw (getD-take-below chains [] v u below) (whole .ended u (omega arith));
 }
-
-same-lists-by : {A : Type 0} (xs ys : List A) (d : A) → length xs ≡ length ys → ((i : ℕ) → i < length xs → getD xs i d ≡ getD ys i d) → xs ≡ ys
-same-lists-by [] [] d n h = refl
-same-lists-by [] (y ∷ ys) d n h = absurd (omega arith)
-same-lists-by (x ∷ xs) [] d n h = absurd (omega arith)
-same-lists-by (x ∷ xs) (y ∷ ys) d n h =
-    let head : x ≡ y = h 0 (omega arith) in
-    let tail = same-lists-by xs ys d (omega arith) (λ i l. h (suc i) (omega arith)) in
-    λ i. head i ∷ tail i
 
 one-chains : {s : List ℕ} {v : ℕ} {a b : List (List ℕ)} → Chains s v a → Chains s v b → a ≡ b
 one-chains {v = v} {a} {b} left right =

@@ -6,3 +6,4 @@ pub mod Walks
 pub mod Reachability
 pub mod Digits
 pub mod Laws
+pub mod Lists
