@@ -5,7 +5,6 @@ ghost use mathlib.Core.List.{List};
 ghost use Prim.Native.Nat.{ℕ, _+_, _*_, _<_, _≤_};
 ghost use lib.ListN.{length};
 ghost use Rattle.game.specs.Game.{Game, Lawful};
-ghost use Rattle.heights.specs.Climb.{climb};
 ghost use Rattle.heights.specs.Heights.{Closed, Least-closed};
 ghost use Rattle.heights.specs.Sweeps.{Swept};
 ghost use Rattle.heights.specs.Ladder.{Ladder, Ladder-laws, counters};
@@ -19,11 +18,6 @@ pub use cleared::Cleared;
 pub use cleared::clear;
 pub use scale::Scale;
 pub use sweeps::least_heights;
-
-// Climbs for 2 positions and 1 register, where T is 4.
-pub fn worked_climbs()
-    ensures { λ _. ⌜ (climb 2 1 1 1 ≡ 2) × (climb 2 1 1 2 ≡ 0) × (climb 2 1 3 2 ≡ 2) × (climb 2 1 3 3 ≡ 4) ⌝ }
-{}
 
 // By steps up to T a climb is monotone and at most T.
 pub fn climb_laws()

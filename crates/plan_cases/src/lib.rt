@@ -10,7 +10,7 @@ use table::TableArena;
 
 // How a plan is judged: the number and place of the refusal, or the mark.
 #[derive(Clone, Copy, PartialEq, Eq, Debug)]
-pub enum Outcome {
+enum Outcome {
     Outside,
     Refused(usize, usize),
     Passes,
@@ -18,7 +18,7 @@ pub enum Outcome {
     Loses(usize),
 }
 
-pub fn judging(table: &Table, bytes: &[u8]) -> Outcome {
+fn judging(table: &Table, bytes: &[u8]) -> Outcome {
     match judge(table, bytes) {
         None => Outcome::Outside,
         Some(Err(fault)) => Outcome::Refused(fault.number(), fault.place()),
@@ -29,7 +29,7 @@ pub fn judging(table: &Table, bytes: &[u8]) -> Outcome {
 }
 
 // Where a well-formed plan leaves, and where it loses.
-pub fn places(table: &Table, bytes: &[u8]) -> (Option<usize>, Option<usize>) {
+fn places(table: &Table, bytes: &[u8]) -> (Option<usize>, Option<usize>) {
     if table.size() > 16 {
         return (None, None);
     }

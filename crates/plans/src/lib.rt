@@ -1,5 +1,4 @@
 // Plans given as bytes are judged on any arena with at most 16 positions.
-ghost use Rattle.plans.specs.Examples.{Worked-plans};
 ghost use Rattle.plans.specs.Theorems.{Faults-complete, Marks-complete};
 
 mod closure;
@@ -32,9 +31,4 @@ pub fn plan_faults_complete()
 // Every well-formed plan has exactly one mark, and passes exactly when it wins.
 pub fn plan_marks_complete()
     ensures { λ _. ⌜ Marks-complete ⌝ }
-{}
-
-// Three plans on a game of two positions, marked by the definitions alone.
-pub fn worked_plans()
-    ensures { λ _. ⌜ Worked-plans ⌝ }
 {}

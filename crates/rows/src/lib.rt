@@ -10,7 +10,7 @@ ghost use Rattle.rows.specs.Choose.{choose};
 ghost use Rattle.rows.specs.Rows.{IsRow, rows, place};
 ghost use Rattle.rows.specs.Registers.{content, updated, reset, resetPriority};
 ghost use Rattle.rows.specs.Views.{contentsOf, found, some-registers, in-range, is-number, has-register};
-ghost use Rattle.rows.specs.Theorems.{Rows-listed, Rows-ascend, Rows-counted, Rows-numbered, Rows-kept, Contents-moved, Worked-rows};
+ghost use Rattle.rows.specs.Theorems.{Rows-listed, Rows-ascend, Rows-counted, Rows-numbered, Rows-kept, Contents-moved};
 
 mod row;
 mod table;
@@ -199,9 +199,4 @@ pub fn rows_kept()
 // What each register holds after a move.
 pub fn contents_moved()
     ensures { λ _. ⌜ Contents-moved ⌝ }
-{}
-
-// The examples, computed from the definitions.
-pub fn worked_rows()
-    ensures { λ _. ⌜ Worked-rows ⌝ }
 {}

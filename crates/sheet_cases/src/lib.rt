@@ -9,13 +9,13 @@ use table::TableArena;
 
 // What reading gives: the number and place of the refusal, or how many positions and arcs there are.
 #[derive(Clone, Copy, PartialEq, Eq, Debug)]
-pub enum Outcome {
+enum Outcome {
     Refused(usize, usize),
     Holds(usize, usize),
     Memory,
 }
 
-pub fn reading(table: &mut Table, heap: Global, bytes: &[u8]) -> Outcome {
+fn reading(table: &mut Table, heap: Global, bytes: &[u8]) -> Outcome {
     match read_sheet(table, heap, bytes) {
         Ok(()) => Outcome::Holds(table.size(), arc_total(table)),
         Err(ReadFault::Refused(fault)) => Outcome::Refused(fault.number(), fault.place()),
