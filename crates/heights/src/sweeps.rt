@@ -6,12 +6,13 @@ ghost use lib.Dec.{ltb};
 ghost use lib.ListN.{length, set};
 ghost use Rattle.toolkit.specs.Finite.{bit};
 ghost use Rattle.heights.specs.Climb.{lost};
-ghost use Rattle.heights.specs.Heights.{due};
+ghost use Rattle.heights.specs.Heights.{asked, due};
 ghost use Rattle.heights.specs.Sweeps.{heightIn, Swept};
 ghost use Rattle.heights.specs.Replies.{better, Reply};
 use super::cleared::clear;
 use super::scale::Scale;
 use arena::Arena;
+use game::Arc;
 use game::Player;
 
 // Of two heights Even takes the lower one, Odd the higher one.
@@ -22,6 +23,15 @@ fn better(mover: Player, x: u32, y: u32) -> u32
         Player::Even => x.min(y),
         Player::Odd => x.max(y),
     }
+}
+
+// What an arc asks of the position that it leaves.
+fn asked(scale: &Scale, cells: &[u32], arc: Arc) -> u32
+    requires inside { ⌜ arc .target < length (now cells) ⌝ }
+    requires low { ⌜ arc .priority ≤ 2 * now scale .r + 1 ⌝ }
+    ensures { λ x. ⌜ x ≡ asked (now (scale .entry) .n) (now (scale .entry) .r) (heightIn (now (cells .entry))) arc ⌝ }
+{
+    scale.climb(cells[arc.target], arc.priority)
 }
 
 // The due height of position v.
@@ -42,7 +52,7 @@ fn due<A: Arena>(arena: &A, scale: &Scale, cells: &[u32], v: usize) -> u32
         let Some(arc) = arena.arc(v, i) else {
             unreachable()
         };
-        best = better(mover, best, scale.climb(cells[arc.target], arc.priority));
+        best = better(mover, best, asked(scale, cells, arc));
     }
     best
 }
