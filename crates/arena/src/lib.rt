@@ -1,4 +1,6 @@
 // The arena: a parity game by the questions that may be asked of it, and the layers that stand over any arena.
+#![tactic(auto)]
+
 mod hold;
 mod named;
 mod questions;

@@ -1,5 +1,7 @@
 // Theorems over every lawful game, of whatever size: each position belongs to exactly one player, by one winning plan for
 // each player, and what swap and hold do to winning plans. Each function does nothing but have its theorem for a contract.
+#![tactic(auto)]
+
 ghost use Rattle.std.specs.Prelude.{ℕ, ◌<◌, List, Option};
 ghost use Rattle.game.specs.declared.Player.{Player};
 ghost use Rattle.game.specs.declared.Player.TheVariants.{Even, Odd};

@@ -1,4 +1,6 @@
 // The two players and an arc of a game; the game itself, plans and winning are definitions in specs/.
+#![tactic(auto)]
+
 ghost use Rattle.std.specs.Prelude.{◌≡◌};
 ghost use Rattle.game.specs.Game.{rival};
 ghost use Rattle.game.specs.Loops.{LoneLoopsDecided};

@@ -1,5 +1,7 @@
 // Least heights: the progress measure of a game, reached by sweeps; and the theorems that they rest on, each the contract of a
 // function that does nothing else.
+#![tactic(auto)]
+
 ghost use Rattle.std.specs.Prelude.{◌≡◌, ℕ, ◌+◌, ◌*◌, ◌<◌, ◌≤◌, List, length};
 ghost use Rattle.game.specs.Game.{Game, Lawful};
 ghost use Rattle.heights.specs.Heights.{Closed, LeastClosed};

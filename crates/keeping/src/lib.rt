@@ -1,4 +1,6 @@
 // Which positions the registers keep, for Even: the least heights over the register layer, in lent cells.
+#![tactic(auto)]
+
 ghost use Rattle.std.specs.Prelude.{◌≡◌, ℕ, ◌*◌, ◌<◌, ◌≤◌, false, length, MatchResult, nat_lt, slice_index, slice_index_or};
 ghost use Rattle.keeping.specs.Keeping.{Reply};
 ghost use Rattle.keeping.specs.Measuring.{Laid, Left, Measured};

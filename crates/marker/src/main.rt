@@ -1,4 +1,6 @@
 // The marker: reads a sheet from standard input and prints the arena that it describes, or the refusal line.
+#![tactic(auto)]
+
 ghost use Rattle.std.specs.Prelude.{◌≤◌, length, IfOk};
 
 use anyhow::anyhow;

@@ -1,4 +1,6 @@
 // A table of plans and how each of them is judged.
+#![tactic(auto)]
+
 use arena::Arena;
 use plans::{Mark, check_form, judge, leaves_at, loses_at};
 use table::Table;

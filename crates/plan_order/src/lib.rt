@@ -1,4 +1,6 @@
 // The first plan, by its bytes.
+#![tactic(auto)]
+
 ghost use Rattle.std.specs.Prelude.{ℕ, List};
 ghost use Rattle.game.specs.declared.Player.{Player};
 ghost use Rattle.game.specs.Game.{Game};

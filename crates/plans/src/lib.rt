@@ -1,4 +1,6 @@
 // Plans given as bytes are judged on any arena with at most 16 positions.
+#![tactic(auto)]
+
 ghost use Rattle.plans.specs.Theorems.{FaultsComplete, MarksComplete};
 
 mod closure;

@@ -1,5 +1,7 @@
 // The theory of the register layer: what its least heights keep is won, more registers keep no less, and enough registers keep
 // all that is won. Each function does nothing but have its theorem for a contract.
+#![tactic(auto)]
+
 ghost use Rattle.std.specs.Prelude.{◌≡◌, ℕ, ◌%◌, ◌^◌, ◌<◌, ◌≤◌, true, ◌↔◌, List, Option};
 ghost use Rattle.game.specs.declared.Player.{Player};
 ghost use Rattle.game.specs.Game.{Game, Lawful};

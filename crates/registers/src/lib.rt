@@ -1,4 +1,6 @@
 // The register layer: a game of r registers over any arena that is small enough.
+#![tactic(auto)]
+
 mod answers;
 mod copied;
 mod copying;

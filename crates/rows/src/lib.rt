@@ -1,4 +1,6 @@
 // Rows of registers: their numbering, and what updates and resets do to them.
+#![tactic(auto)]
+
 ghost use Rattle.std.specs.Prelude.{◌≡◌, ℕ, ◌+◌, ◌-◌, ◌^◌, ◌<◌, ◌≤◌, true, length, replicate, if◌then◌else◌, Some, None, nat_le, slice_index};
 ghost use Rattle.std.specs.List.{slice_get};
 ghost use Rattle.rows.specs.Choose.{choose};

@@ -1,4 +1,6 @@
 // Sheets: a table is filled from the bytes of a sheet, or the sheet is refused.
+#![tactic(auto)]
+
 mod chains;
 mod fault;
 mod layout;

@@ -1,4 +1,6 @@
 // A table of sheets and what reading each of them gives.
+#![tactic(auto)]
+
 use arena::Arena;
 use game::Player;
 use sheet::{ReadFault, read_sheet};

@@ -1,4 +1,6 @@
 // Lines of text, written piece by piece into a lent output.
+#![tactic(auto)]
+
 mod fault;
 mod pieces;
 

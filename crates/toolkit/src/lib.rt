@@ -1,5 +1,7 @@
 // Finite mathematics that the theorems on games share: counting, sums, search, the pigeonhole principle, digits in a base,
 // walks and reachability. Each function does nothing but have its theorem for a contract.
+#![tactic(auto)]
+
 ghost use Rattle.std.specs.Prelude.{ℕ, ◌<◌, ◌≤◌, Bool};
 ghost use Rattle.toolkit.specs.Finite.{Twice};
 ghost use Rattle.toolkit.specs.Laws.{Counting, Adding, LeastOrNone, Digits, Walking};

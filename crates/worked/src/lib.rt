@@ -1,4 +1,6 @@
 // The worked examples of the rules, together: each follows from the definitions that the contracts of the code cite.
+#![tactic(auto)]
+
 ghost use Rattle.game.specs.Loops.{LoneLoopsDecided};
 ghost use Rattle.rows.specs.Theorems.{WorkedRows};
 ghost use Rattle.plans.specs.Examples.{WorkedPlans};
