@@ -1,5 +1,5 @@
 // Hold: positions below 16 may be restricted to one of their arcs.
-ghost use Rattle.std.specs.Prelude.{◌≡◌, ltb, replicate, if◌then◌else◌, Some, None, nat_lt, slice_set};
+ghost use Rattle.std.specs.Prelude.{◌≡◌, replicate, if◌then◌else◌, Some, None, nat_lt, slice_set};
 ghost use Rattle.game.specs.Layers.{held, entry_at};
 ghost use Rattle.game.proofs.Layers.{held_lawful};
 ghost use Rattle.arena.specs.Entries.{left_of};
@@ -32,7 +32,7 @@ impl<A> Hold<A> {
     pub fn set(&mut self, v: usize, i: usize) -> bool
         ensures done { result ≡ nat_lt v 16 }
         ensures below { self.new.below ≡ self.old.below }
-        ensures entries { self.new.entries ≡ (if ltb v 16 then slice_set self.old.entries v (Some i) else self.old.entries) }
+        ensures entries { self.new.entries ≡ (if nat_lt v 16 then slice_set self.old.entries v (Some i) else self.old.entries) }
     {
         if v >= 16 {
             return false;
@@ -45,7 +45,7 @@ impl<A> Hold<A> {
     pub fn clear(&mut self, v: usize) -> bool
         ensures done { result ≡ nat_lt v 16 }
         ensures below { self.new.below ≡ self.old.below }
-        ensures entries { self.new.entries ≡ (if ltb v 16 then slice_set self.old.entries v None else self.old.entries) }
+        ensures entries { self.new.entries ≡ (if nat_lt v 16 then slice_set self.old.entries v None else self.old.entries) }
     {
         if v >= 16 {
             return false;

@@ -15,7 +15,7 @@ pub struct Swap<A> {
 impl<A: Arena> Swap<A> {
     // Over an arena with top 250 a raised priority would break the laws, so the layer has no positions there.
     fn stands(&self) -> bool
-        ensures { result ≡ nat_lt (game self.now.below).top 250 }
+        ensures { result ≡ nat_lt (A.game self.now.below).top 250 }
     {
         self.below.top() < 250
     }

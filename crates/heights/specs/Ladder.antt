@@ -52,7 +52,7 @@ pub record Keeps {Value : Type 0} (limit : ℕ) (l : Ladder Value) (x y : Value)
 abbrev pub counters : ℕ → ℕ → Ladder ℕ
 counters n r = record {
   is_rung = λ x. nat_le x (lost n r);
-  at_most = leb;
+  at_most = nat_le;
   top = lost n r;
   roughly = λ p x y. nat_le (x / step_of n p) (y / step_of n p);
   climbs = climb n r;

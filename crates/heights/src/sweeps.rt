@@ -1,5 +1,5 @@
 // The least closed heights of an arena, in lent cells.
-ghost use Rattle.std.specs.Prelude.{◌≡◌, ℕ, ◌+◌, ◌*◌, ◌<◌, ◌≤◌, ltb, length, if◌then◌else◌, nat_lt, slice_set};
+ghost use Rattle.std.specs.Prelude.{◌≡◌, ℕ, ◌+◌, ◌*◌, ◌<◌, ◌≤◌, length, if◌then◌else◌, nat_lt, slice_set};
 ghost use Rattle.toolkit.specs.Finite.{bit};
 ghost use Rattle.heights.specs.Climb.{lost};
 ghost use Rattle.heights.specs.Heights.{asked, due};
@@ -32,10 +32,10 @@ fn asked(scale: &Scale, cells: &[u32], arc: Arc) -> u32
 
 // The due height of position v.
 fn due<A: Arena>(arena: &A, scale: &Scale, cells: &[u32], v: usize) -> u32
-    requires there { v < (game arena.now).size }
-    requires low { (game arena.now).top ≤ 2 * scale.now.r + 1 }
-    requires room { (game arena.now).size ≤ length cells.now }
-    ensures { result ≡ due scale.now.n scale.now.r (game arena.now) (height_in cells.now) v }
+    requires there { v < (A.game arena.now).size }
+    requires low { (A.game arena.now).top ≤ 2 * scale.now.r + 1 }
+    requires room { (A.game arena.now).size ≤ length cells.now }
+    ensures { result ≡ due scale.now.n scale.now.r (A.game arena.now) (height_in cells.now) v }
 {
     let Some(mover) = arena.mover(v) else {
         unreachable()
@@ -57,7 +57,7 @@ fn due<A: Arena>(arena: &A, scale: &Scale, cells: &[u32], v: usize) -> u32
 fn lift(cells: &mut [u32], v: usize, wanted: u32) -> usize
     requires { v < length cells.old }
     ensures count { result ≡ bit (nat_lt (height_in cells.old v) wanted) }
-    ensures cells { cells.new ≡ (if ltb (height_in cells.old v) wanted then slice_set cells.old v wanted else cells.old) }
+    ensures cells { cells.new ≡ (if nat_lt (height_in cells.old v) wanted then slice_set cells.old v wanted else cells.old) }
 {
     if cells[v] >= wanted {
         return 0;
@@ -68,10 +68,10 @@ fn lift(cells: &mut [u32], v: usize, wanted: u32) -> usize
 
 // Sweeps until a sweep raises nothing, and counts the raises.
 fn sweep<A: Arena>(arena: &A, scale: &Scale, cells: &mut [u32]) -> usize
-    requires low { (game arena.now).top ≤ 2 * scale.now.r + 1 }
-    requires room { (game arena.now).size ≤ length cells.old }
-    requires bounded { (v : ℕ) → v < (game arena.now).size → height_in cells.old v ≤ lost scale.now.n scale.now.r }
-    ensures { Swept scale.now.n scale.now.r (game arena.now) cells.old cells.new result }
+    requires low { (A.game arena.now).top ≤ 2 * scale.now.r + 1 }
+    requires room { (A.game arena.now).size ≤ length cells.old }
+    requires bounded { (v : ℕ) → v < (A.game arena.now).size → height_in cells.old v ≤ lost scale.now.n scale.now.r }
+    ensures { Swept scale.now.n scale.now.r (A.game arena.now) cells.old cells.new result }
 {
     let size = arena.size();
     let mut total = 0;
@@ -91,7 +91,7 @@ fn sweep<A: Arena>(arena: &A, scale: &Scale, cells: &mut [u32]) -> usize
 
 // The least closed heights of the arena, for base n and r registers, in its first cells; the reply is the number of raises.
 pub fn least_heights<A: Arena>(arena: &A, n: usize, r: usize, cells: &mut [u32]) -> Option<usize>
-    ensures { Reply n r (game arena.now) cells.old cells.new result }
+    ensures { Reply n r (A.game arena.now) cells.old cells.new result }
 {
     if n == 0 || n > 16 || r == 0 || r > 5 {
         return None;

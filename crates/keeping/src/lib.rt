@@ -23,7 +23,7 @@ pub fn kept<A: Arena>(
     r: usize,
     cells: &mut [u32],
 ) -> Result<Option<Keeping>, AllocError>
-    ensures { MatchResult result (Reply r (game arena.now) cells.old cells.new) (λ _. cells.new ≡ cells.old) }
+    ensures { MatchResult result (Reply r (A.game arena.now) cells.old cells.new) (λ _. cells.new ≡ cells.old) }
 {
     let size = arena.size();
     let rows = row_count(r, arena.top()).unwrap_or(0);
@@ -39,8 +39,8 @@ fn measured<L: Arena>(
     rows: usize,
     cells: &mut [u32],
 ) -> Option<Keeping>
-    requires { Laid size r rows (game layer.now) }
-    ensures { Measured size r rows (game layer.now) cells.old cells.new result }
+    requires { Laid size r rows (L.game layer.now) }
+    ensures { Measured size r rows (L.game layer.now) cells.old cells.new result }
 {
     let used = layer.size();
     if used == 0 || cells.len() < used {
@@ -58,10 +58,10 @@ fn measured_now<L: Arena>(
     rows: usize,
     cells: &mut [u32],
 ) -> Keeping
-    requires laid { Laid size r rows (game layer.now) }
-    requires some { 1 ≤ (game layer.now).size }
-    requires room { (game layer.now).size ≤ length cells.old }
-    ensures { Left size r rows (game layer.now) cells.old cells.new result }
+    requires laid { Laid size r rows (L.game layer.now) }
+    requires some { 1 ≤ (L.game layer.now).size }
+    requires room { (L.game layer.now).size ≤ length cells.old }
+    ensures { Left size r rows (L.game layer.now) cells.old cells.new result }
 {
     let Some(raises) = least_heights(layer, size, r, cells) else {
         unreachable()

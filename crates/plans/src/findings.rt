@@ -13,8 +13,8 @@ use game::Player;
 
 // The lowest claimed position from which a following move ends unclaimed.
 pub fn leaves_at<A: Arena>(arena: &A, bytes: &[u8]) -> Option<usize>
-    requires formed { WellFormed (game arena.now) bytes.now }
-    ensures { Found (StepsOut (game arena.now) (plan_of (game arena.now).size bytes.now)) result }
+    requires formed { WellFormed (A.game arena.now) bytes.now }
+    ensures { Found (StepsOut (A.game arena.now) (plan_of (A.game arena.now).size bytes.now)) result }
 {
     for p in 0..arena.size() {
         if steps_out(arena, bytes, p) {
@@ -46,9 +46,9 @@ fn lower(a: Option<usize>, b: Option<usize>) -> Option<usize>
 
 // The lowest position from which a closed walk has this highest priority: one with a move of that priority and none above it.
 fn closed_walk_at<A: Arena>(arena: &A, bytes: &[u8], priority: u8) -> Option<usize>
-    requires few { (game arena.now).size ≤ 16 }
-    requires formed { WellFormed (game arena.now) bytes.now }
-    ensures { Found (ClosedWalkAt (game arena.now) (plan_of (game arena.now).size bytes.now) priority) result }
+    requires few { (A.game arena.now).size ≤ 16 }
+    requires formed { WellFormed (A.game arena.now) bytes.now }
+    ensures { Found (ClosedWalkAt (A.game arena.now) (plan_of (A.game arena.now).size bytes.now) priority) result }
 {
     let reach = closed(&moves_between(arena, bytes, 0, priority));
     let peaks = moves_between(arena, bytes, priority, priority);
@@ -62,9 +62,9 @@ fn closed_walk_at<A: Arena>(arena: &A, bytes: &[u8], priority: u8) -> Option<usi
 
 // The lowest position on a closed walk of following moves whose highest priority has the wrong parity.
 pub fn loses_at<A: Arena>(arena: &A, bytes: &[u8]) -> Option<usize>
-    requires few { (game arena.now).size ≤ 16 }
-    requires formed { WellFormed (game arena.now) bytes.now }
-    ensures { Found (OnLosingWalk (game arena.now) (plan_of (game arena.now).size bytes.now)) result }
+    requires few { (A.game arena.now).size ≤ 16 }
+    requires formed { WellFormed (A.game arena.now) bytes.now }
+    ensures { Found (OnLosingWalk (A.game arena.now) (plan_of (A.game arena.now).size bytes.now)) result }
 {
     let player = player_of(bytes);
     let mut lowest = None;

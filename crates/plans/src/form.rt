@@ -9,7 +9,7 @@ use arena::Arena;
 use game::Player;
 
 pub fn check_form<A: Arena>(arena: &A, bytes: &[u8]) -> Result<(), PlanFault>
-    ensures { MatchResult result (λ _. WellFormed (game arena.now) bytes.now) (Refuses (game arena.now) bytes.now) }
+    ensures { MatchResult result (λ _. WellFormed (A.game arena.now) bytes.now) (Refuses (A.game arena.now) bytes.now) }
 {
     let size = arena.size();
     if bytes.len() != size + 2 {
@@ -30,9 +30,9 @@ pub fn check_form<A: Arena>(arena: &A, bytes: &[u8]) -> Result<(), PlanFault>
 }
 
 fn choice_fits<A: Arena>(arena: &A, bytes: &[u8], v: usize) -> bool
-    requires headed { Headed (game arena.now).size bytes.now }
-    requires there { v < (game arena.now).size }
-    ensures { Tells result (ChoiceFits (game arena.now) bytes.now v) }
+    requires headed { Headed (A.game arena.now).size bytes.now }
+    requires there { v < (A.game arena.now).size }
+    ensures { Tells result (ChoiceFits (A.game arena.now) bytes.now v) }
 {
     let Some(mover) = arena.mover(v) else {
         unreachable()

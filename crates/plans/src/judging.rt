@@ -14,9 +14,9 @@ use arena::Arena;
 
 // The mark of a well-formed plan. Where it both leaves and loses, it leaves.
 fn mark_of<A: Arena>(arena: &A, bytes: &[u8]) -> Mark
-    requires few { (game arena.now).size ≤ 16 }
-    requires formed { WellFormed (game arena.now) bytes.now }
-    ensures { Marks (game arena.now) (plan_of (game arena.now).size bytes.now) result }
+    requires few { (A.game arena.now).size ≤ 16 }
+    requires formed { WellFormed (A.game arena.now) bytes.now }
+    ensures { Marks (A.game arena.now) (plan_of (A.game arena.now).size bytes.now) result }
 {
     match (leaves_at(arena, bytes), loses_at(arena, bytes)) {
         (None, None) => Mark::Passes,
@@ -27,8 +27,8 @@ fn mark_of<A: Arena>(arena: &A, bytes: &[u8]) -> Mark
 
 // The mark of the plan that the bytes are, or why they are none.
 fn judged<A: Arena>(arena: &A, bytes: &[u8]) -> Result<Mark, PlanFault>
-    requires few { (game arena.now).size ≤ 16 }
-    ensures { MatchResult result (FormedAndMarked (game arena.now) bytes.now) (Refuses (game arena.now) bytes.now) }
+    requires few { (A.game arena.now).size ≤ 16 }
+    ensures { MatchResult result (FormedAndMarked (A.game arena.now) bytes.now) (Refuses (A.game arena.now) bytes.now) }
 {
     check_form(arena, bytes)?;
     Ok(mark_of(arena, bytes))
@@ -36,8 +36,8 @@ fn judged<A: Arena>(arena: &A, bytes: &[u8]) -> Result<Mark, PlanFault>
 
 // Judges the bytes on an arena of at most 16 positions; nothing is said of them on any other. A plan passes exactly when it wins.
 pub fn judge<A: Arena>(arena: &A, bytes: &[u8]) -> Option<Result<Mark, PlanFault>>
-    ensures answers { Judges (game arena.now) bytes.now result }
-    ensures passes { (result ≡ Some (Ok Passes)) ↔ WinningBytes (game arena.now) bytes.now }
+    ensures answers { Judges (A.game arena.now) bytes.now result }
+    ensures passes { (result ≡ Some (Ok Passes)) ↔ WinningBytes (A.game arena.now) bytes.now }
 {
     if arena.size() > 16 {
         return None;

@@ -24,10 +24,10 @@ fn allowed(own: bool, choice: u8, i: usize) -> bool
 
 // Arc i of position v, if it follows the plan.
 fn followed_arc<A: Arena>(arena: &A, bytes: &[u8], v: usize, i: usize) -> Option<Arc>
-    requires formed { WellFormed (game arena.now) bytes.now }
-    requires there { v < (game arena.now).size }
-    requires arc { i < length ((game arena.now).arcs v) }
-    ensures { result ≡ followed_arc (game arena.now) (plan_of (game arena.now).size bytes.now) v i }
+    requires formed { WellFormed (A.game arena.now) bytes.now }
+    requires there { v < (A.game arena.now).size }
+    requires arc { i < length ((A.game arena.now).arcs v) }
+    ensures { result ≡ followed_arc (A.game arena.now) (plan_of (A.game arena.now).size bytes.now) v i }
 {
     let Some(mover) = arena.mover(v) else {
         unreachable()
@@ -65,8 +65,8 @@ fn leads_out(bytes: &[u8], arc: Option<Arc>) -> bool
 
 // Whether a following move with a priority from low to high leads from u to w.
 fn leads<A: Arena>(arena: &A, bytes: &[u8], low: u8, high: u8, u: usize, w: usize) -> bool
-    requires formed { WellFormed (game arena.now) bytes.now }
-    ensures { Tells result (MovesBetween (game arena.now) (plan_of (game arena.now).size bytes.now) low high u w) }
+    requires formed { WellFormed (A.game arena.now) bytes.now }
+    ensures { Tells result (MovesBetween (A.game arena.now) (plan_of (A.game arena.now).size bytes.now) low high u w) }
 {
     let Some(count) = arena.arc_count(u) else {
         return false;
@@ -80,8 +80,8 @@ fn leads<A: Arena>(arena: &A, bytes: &[u8], low: u8, high: u8, u: usize, w: usiz
 }
 
 pub fn moves_between<A: Arena>(arena: &A, bytes: &[u8], low: u8, high: u8) -> Relation
-    requires formed { WellFormed (game arena.now) bytes.now }
-    ensures { HasMoves (game arena.now) (plan_of (game arena.now).size bytes.now) low high result }
+    requires formed { WellFormed (A.game arena.now) bytes.now }
+    ensures { HasMoves (A.game arena.now) (plan_of (A.game arena.now).size bytes.now) low high result }
 {
     let mut cells = [false; 256];
     for c in 0..256usize {
@@ -92,9 +92,9 @@ pub fn moves_between<A: Arena>(arena: &A, bytes: &[u8], low: u8, high: u8) -> Re
 
 // Whether a following move from v ends unclaimed.
 pub fn steps_out<A: Arena>(arena: &A, bytes: &[u8], v: usize) -> bool
-    requires formed { WellFormed (game arena.now) bytes.now }
-    requires there { v < (game arena.now).size }
-    ensures { Tells result (StepsOut (game arena.now) (plan_of (game arena.now).size bytes.now) v) }
+    requires formed { WellFormed (A.game arena.now) bytes.now }
+    requires there { v < (A.game arena.now).size }
+    ensures { Tells result (StepsOut (A.game arena.now) (plan_of (A.game arena.now).size bytes.now) v) }
 {
     let Some(count) = arena.arc_count(v) else {
         unreachable()

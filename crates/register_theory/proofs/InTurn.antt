@@ -21,8 +21,8 @@ use Rattle.determinacy.proofs.Disjoint.{disjoint}
 use Rattle.register_theory.specs.First.{Own, SameBelow, FirstPlan, HoldsTo, FoundByHolding}
 use Rattle.register_theory.proofs.First.{ChosenInTurn, winnable_held, plan_agrees, keeps_all_exact, turn_first}
 
-held_number : (o : Option ℕ) (xs : List Arc) (k : ℕ) → o ≡ Some k → k < length xs → held_number o xs ≡ Some k
-held_number o xs k e h = ap (λ x. held_number x xs) e ∙ cond-true (ltb k (length xs)) (Some k) None (lt-ltb k (length xs) h)
+held_number_lem : (o : Option ℕ) (xs : List Arc) (k : ℕ) → o ≡ Some k → k < length xs → held_number o xs ≡ Some k
+held_number_lem o xs k e h = ap (λ x. held_number x xs) e ∙ cond-true (ltb k (length xs)) (Some k) None (lt-ltb k (length xs) h)
 
 pub held_entry : (o : Option ℕ) (xs : List Arc) (k : ℕ) → held_number o xs ≡ Some k → o ≡ Some k
 held_entry None xs k e = absurd (none_is_not_some k e)
@@ -49,8 +49,8 @@ module _ (g : Game) (player : Player) (s : Plan) (is_players : s.player ≡ play
   -- and one that wins the region and agrees with them has those choices
   agrees_says : ((u : ℕ) → u < v → Own g s u → s.choice u < length (g.arcs u)) → Own g s v → i < length (g.arcs v) → (t : Plan) → WinsRegion g player t → Agrees entries g t → SameBelow g s t v × (t.choice v ≡ i)
   agrees_says arcs own is_arc t region agrees = (
-    λ u h mine. agrees u (s.choice u) (claimed u mine) (mover u mine) (held_number (entry_at entries u) (g.arcs u) (s.choice u) (holds.before u h mine) (arcs u h mine)),
-    agrees v i (claimed v own) (mover v own) (held_number (entry_at entries v) (g.arcs v) i holds.here is_arc),
+    λ u h mine. agrees u (s.choice u) (claimed u mine) (mover u mine) (held_number_lem (entry_at entries u) (g.arcs u) (s.choice u) (holds.before u h mine) (arcs u h mine)),
+    agrees v i (claimed v own) (mover v own) (held_number_lem (entry_at entries v) (g.arcs v) i holds.here is_arc),
   )
     where
       claimed : (u : ℕ) → Own g s u → t.claims u ≡ true

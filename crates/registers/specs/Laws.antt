@@ -42,8 +42,8 @@ module _ (r : ℕ) (g : Game) (laws : Lawful g) (stand : Standing r g) where
   at_there : (x : ℕ) → x < (layer r g).size → x / row_count r g < g.size + arc_total g
   at_there x h = div_below x (row_count r g) (g.size + arc_total g) (some_row r g.top) h
 
-  row_number : (x : ℕ) → x % row_count r g < row_count r g
-  row_number x = mod_below x (row_count r g) (some_row r g.top)
+  row_number_lem : (x : ℕ) → x % row_count r g < row_count r g
+  row_number_lem x = mod_below x (row_count r g) (some_row r g.top)
 
   -- the arcs at a position of the game below, and at one of its arcs
   at_position : (at : ℕ) (row : List ℕ) → at < g.size → layer_arcs r g at row ≡ updates r g row (first_arc g at) (g.arcs at)
@@ -102,13 +102,13 @@ module _ (r : ℕ) (g : Game) (laws : Lawful g) (stand : Standing r g) where
       let k : ℕ = x % row_count r g in
       let row : List ℕ = get_or (rows r g.top) k [] in
       elim (cases_lt at g.size) [
-        | inl h ↦ update_inside at k i a h (row_number x) (rw (at_position at row h) at there.1)
+        | inl h ↦ update_inside at k i a h (row_number_lem x) (rw (at_position at row h) at there.1)
         | inr h ↦
             let in_range = at_there x there.0 in
             let b : Arc = get_or (arcs_below g g.size) (at - g.size) no_arc in
             let below = slice_get-get_or (arcs_below g g.size) (at - g.size) no_arc (omega arith) in
             let leads = arc_below g laws g.size (at - g.size) b (omega arith) below in
-            choice_inside k i b a leads.0 (row_number x) (rw (at_arc at row h) at there.1)
+            choice_inside k i b a leads.0 (row_number_lem x) (rw (at_arc at row h) at there.1)
       ]
 
   pub layer_lawful : Lawful (layer r g)

@@ -13,7 +13,7 @@ use std::alloc::{AllocError, Global};
 impl Registers {
     // The layer of r registers over an arena, which is asked now and not again.
     pub fn over<A: Arena>(heap: Global, arena: &A, r: usize) -> Result<Registers, AllocError>
-        ensures { IfOk result (λ x. game_of x ≡ registers r (game arena.now)) }
+        ensures { IfOk result (λ x. game_of x ≡ registers r (A.game arena.now)) }
     {
         if r == 0 || r > 5 {
             return Ok(Registers { layer: None });

@@ -12,9 +12,9 @@ use std::alloc::{AllocError, Global};
 
 // Adds the arcs of position v: false where there would be more than 64.
 fn add_arcs<A: Arena>(arena: &A, v: usize, arcs: &mut Vec<Arc>) -> Result<bool, AllocError>
-    requires there { v < (game arena.now).size }
+    requires there { v < (A.game arena.now).size }
     requires narrow { length arcs.old.items ≤ 64 }
-    ensures { IfOk result (λ done. Added done ((game arena.now).arcs v) arcs.old.items arcs.new.items) }
+    ensures { IfOk result (λ done. Added done ((A.game arena.now).arcs v) arcs.old.items arcs.new.items) }
 {
     let Some(count) = arena.arc_count(v) else {
         unreachable()
@@ -34,7 +34,7 @@ fn add_arcs<A: Arena>(arena: &A, v: usize, arcs: &mut Vec<Arc>) -> Result<bool, 
 impl Copied {
     // A copy of the arena, where it fits.
     pub(crate) fn of<A: Arena>(heap: Global, arena: &A) -> Result<Option<Copied>, AllocError>
-        ensures { IfOk result (Taken (game arena.now)) }
+        ensures { IfOk result (Taken (A.game arena.now)) }
     {
         let size = arena.size();
         let top = arena.top();

@@ -13,12 +13,12 @@ told r top rows t o is_top is-count is_rows = is_rows ∙ ap (λ x. unwrap_or x 
 pub measured-requires : goal.measured-requires
 measured-requires g c =
     let below = g.A.Arena.game c.args.arena.now in
-    laid c.args.r below c.size-size.result c.unwrap-or-rows.result _ c.in-ok-layer.ensures c.size-size.ensures (told c.args.r below.top c.unwrap-or-rows.result c.top.result c.row-count.result c.top.ensures c.row-count.ensures c.unwrap-or-rows.ensures)
+    laid c.args.r below c.size-size.result c.unwrap_or-rows.result _ c.in_ok-layer.ensures c.size-size.ensures (told c.args.r below.top c.unwrap_or-rows.result c.top.result c.row_count.result c.top.ensures c.row_count.ensures c.unwrap_or-rows.ensures)
 
 pub returns : goal.returns
 returns g c =
     let below = g.A.Arena.game c.args.arena.now in
-    let rows = c.unwrap-or-rows.result in
-    let is_rows = told c.args.r below.top rows c.top.result c.row-count.result c.top.ensures c.row-count.ensures c.unwrap-or-rows.ensures in
-    let found = subst₂ (λ n (l : Game). Measured n c.args.r rows l c.args.cells.now c.measured.new.cells c.measured.result) c.size-size.ensures c.in-ok-layer.ensures c.measured.ensures in
+    let rows = c.unwrap_or-rows.result in
+    let is_rows = told c.args.r below.top rows c.top.result c.row_count.result c.top.ensures c.row_count.ensures c.unwrap_or-rows.ensures in
+    let found = subst₂ (λ n (l : Game). Measured n c.args.r rows l c.args.cells.now c.measured.new.cells c.measured.result) c.size-size.ensures c.in_ok-layer.ensures c.measured.ensures in
     reply_from c.args.r below rows c.args.cells.now c.measured.new.cells c.measured.result is_rows found

@@ -9,8 +9,8 @@ not_zero c =
     let h : c.args.k < choose (c.loop-c.c + c.args.j - 1) c.args.j = omega arith in
     some_content c.loop-c.c c.args.j c.args.k c.requires.some h
 
-pub overflow-sub-c-in-loop-c : goal.overflow-sub-c-in-loop-c
-overflow-sub-c-in-loop-c c = not_zero c
+pub overflow_sub-c-in-loop-c : goal.overflow_sub-c-in-loop-c
+overflow_sub-c-in-loop-c c = not_zero c
 
 pub loop-c-smaller : goal.loop-c-smaller
 loop-c-smaller c = let h = not_zero c in omega arith

@@ -14,8 +14,8 @@ loop-v-2-init g c =
     let s = c.args.scale.now in
     sweep_begins s.n s.r (g.A.Arena.game c.args.arena.now) c.loop-v.cells
 
-pub overflow-add-raises : goal.overflow-add-raises
-overflow-add-raises g c =
+pub overflow_add-raises : goal.overflow_add-raises
+overflow_add-raises g c =
     let s = c.args.scale.now in
     let few = (g.A.Arena.lawful c.args.arena.now).few_positions in
     let so_far = raises_low s.n s.r (g.A.Arena.game c.args.arena.now) c.loop-v-2.v c.loop-v-2.raises c.loop-v.cells c.loop-v-2.cells c.loop-v-2.invariant in
@@ -27,8 +27,8 @@ loop-v-2-preserved g c =
     let s = c.args.scale.now in
     sweep_goes_on s.n s.r (g.A.Arena.game c.args.arena.now) c.loop-v-2.v c.loop-v-2.raises c.loop-v.cells c.loop-v-2.cells c.loop-v-2.invariant c.due-wanted.result c.lift-raises.result c.lift-raises.new.cells c.due-wanted.ensures c.lift-raises.ensures.cells c.lift-raises.ensures.count
 
-pub overflow-add-total : goal.overflow-add-total
-overflow-add-total g c =
+pub overflow_add-total : goal.overflow_add-total
+overflow_add-total g c =
     let s = c.args.scale.now in
     let next = way_goes_on s.n s.r (g.A.Arena.game c.args.arena.now) s.some (g.A.Arena.lawful c.args.arena.now) c.requires.low c.loop-v.invariant c.requires.room c.loop-v-2.invariant (omega arith) s.low s.few (omega arith) in
     let small = next.small in

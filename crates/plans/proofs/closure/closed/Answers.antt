@@ -6,7 +6,7 @@ use Rattle.plans.proofs.closure.closed.Goals as goal
 
 pub loop-k-init : goal.loop-k-init
 unfolding via
-loop-k-init c = c.with-itself-reached.ensures
+loop-k-init c = c.with_itself-reached.ensures
 
 pub loop-k-preserved : goal.loop-k-preserved
 unfolding via

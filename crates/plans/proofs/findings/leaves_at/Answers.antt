@@ -4,7 +4,7 @@ use Rattle.plans.proofs.Following.{move_from_inside}
 use Rattle.plans.proofs.findings.leaves_at.Goals as goal
 
 pub loop-p-preserved : goal.loop-p-preserved
-loop-p-preserved g c = below_more _ _ c.loop-p.invariant c.if-steps-out.ensures
+loop-p-preserved g c = below_more _ _ c.loop-p.invariant c.if-steps_out.ensures
 
 pub returns : goal.returns
 returns g c = λ v out.

@@ -9,11 +9,11 @@ loop-q-preserved g c =
     let a = g.A.Arena.game c.args.arena.now in
     let s = plan_of a.size c.args.bytes.now in
     let q = c.loop-q.q in
-    let player = c.player-of-player in
+    let player = c.player_of-player in
     elim c.if-wrong.branch [
       | then-wrong w ↦
           let wrong = is_wrong player.result s.player q c.wrong.result player.ensures c.wrong.ensures w.if-wrong.true in
-          rw (w.lowest-is, w.lower-lowest.ensures) (wrong_walk_more a s q wrong c.loop-q.lowest w.closed-walk-at.result c.loop-q.invariant w.closed-walk-at.ensures)
+          rw (w.lowest-is, w.lower-lowest.ensures) (wrong_walk_more a s q wrong c.loop-q.lowest w.closed_walk_at.result c.loop-q.invariant w.closed_walk_at.ensures)
       | else-wrong w ↦
           let right = is_not_wrong player.result s.player q c.wrong.result player.ensures c.wrong.ensures w.if-wrong.false in
           rw w.lowest-is (right_walk_more a s q right c.loop-q.lowest c.loop-q.invariant)

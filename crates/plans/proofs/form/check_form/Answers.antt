@@ -1,13 +1,13 @@
 use Rattle.std.proofs.Common.{arith}
 use Rattle.plans.proofs.form.check_form.Goals as goal
 
-pub returns-then-not-choice-fits : goal.returns-then-not-choice-fits
-returns-then-not-choice-fits g c = (
+pub returns-then-not-choice_fits : goal.returns-then-not-choice_fits
+returns-then-not-choice_fits g c = (
   record { whole = omega arith; player = omega arith; positions = omega arith },
   record {
     from_start = omega arith;
     before_end = omega arith;
-    lacks = c.if-not-choice-fits.ensures;
+    lacks = c.if-not-choice_fits.ensures;
     below_have = λ j _ h. c.loop-v.invariant j h;
   },
 )

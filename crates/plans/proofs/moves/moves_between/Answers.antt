@@ -13,8 +13,8 @@ loop-c-init g c = filled_none
 pub loop-c-preserved : goal.loop-c-preserved
 loop-c-preserved g c = filled_more c.loop-c.invariant c.loop-c-test.true (decided c.leads.result _ c.leads.ensures)
 
-pub invariant-of-result : goal.invariant-of-result
-invariant-of-result g c = (c.loop-c.invariant.whole, tt)
+pub invariant_of-result : goal.invariant_of-result
+invariant_of-result g c = record { whole = c.loop-c.invariant.whole }
 
 pub returns : goal.returns
 returns g c = filled_all c.loop-c.invariant c.loop-c-test.false

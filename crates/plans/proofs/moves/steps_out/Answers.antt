@@ -4,10 +4,10 @@ use Rattle.plans.specs.Bytes.{plan_of}
 use Rattle.plans.proofs.Following.{steps_out_from_arc, no_steps_out_from_arcs}
 use Rattle.plans.proofs.moves.steps_out.Goals as goal
 
-pub returns-then-leads-out : goal.returns-then-leads-out
-returns-then-leads-out g c =
+pub returns-then-leads_out : goal.returns-then-leads_out
+returns-then-leads_out g c =
     let a = g.A.Arena.game c.args.arena.now in
-    steps_out_from_arc a (plan_of a.size c.args.bytes.now) c.args.v c.loop-i.i c.followed-arc.result c.followed-arc.ensures (c.if-leads-out.ensures a.size c.requires.formed.headed.whole)
+    steps_out_from_arc a (plan_of a.size c.args.bytes.now) c.args.v c.loop-i.i c.followed_arc.result c.followed_arc.ensures (c.if-leads_out.ensures a.size c.requires.formed.headed.whole)
 
 pub returns : goal.returns
 returns g c =

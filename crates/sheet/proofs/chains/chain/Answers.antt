@@ -19,5 +19,5 @@ pub loop-reached-preserved : goal.loop-reached-preserved
 loop-reached-preserved c =
     let some : 1 ≤ c.loop-reached.reached = omega arith in
     let s = c.args.sheet.now in
-    let items = c.in-ok-push.ensures.items ∙ ap (λ (a : Arc). vec_items c.loop-reached.arcs ++ a ∷ []) c.arc-at.ensures in
-    rw (items, c.next-record-reached.ensures) (way_goes_on s c.args.v c.requires.recorded c.loop-reached.invariant some c.if-used-reached.false)
+    let items = c.in_ok-push.ensures.items ∙ ap (λ (a : Arc). vec_items c.loop-reached.arcs ++ a ∷ []) c.arc_at.ensures in
+    rw (items, c.next_record-reached.ensures) (way_goes_on s c.args.v c.requires.recorded c.loop-reached.invariant some c.if-used-reached.false)

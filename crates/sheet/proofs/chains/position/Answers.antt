@@ -4,4 +4,4 @@ use Rattle.sheet.proofs.chains.position.Goals as goal
 
 pub returns : goal.returns
 returns c =
-    position_is c.in-ok-chain.ensures c.mover-at-mover.result c.name-at-name.result (vec_items c.in-ok-arcs.arcs) c.mover-at-mover.ensures c.name-at-name.ensures c.in-ok-arcs.ensures
+    position_is c.in_ok-chain.ensures c.mover_at-mover.result c.name_at-name.result (vec_items c.in_ok-arcs.arcs) c.mover_at-mover.ensures c.name_at-name.ensures c.in_ok-arcs.ensures

@@ -10,6 +10,6 @@ same_test false P Q t into back = λ q. t (back q)
 pub returns : goal.returns
 returns c =
     let s = c.args.sheet.now in
-    same_test c.all-visible.result (AllVisible c.name-at-name.result.bytes) (PositionFits s c.args.v) c.all-visible.ensures
-    (λ h. record { mover = omega arith; first = omega arith; name = subst AllVisible c.name-at-name.ensures h })
-    (λ h. subst AllVisible (sym c.name-at-name.ensures) h.name)
+    same_test c.all_visible.result (AllVisible c.name_at-name.result.bytes) (PositionFits s c.args.v) c.all_visible.ensures
+    (λ h. record { mover = omega arith; first = omega arith; name = subst AllVisible c.name_at-name.ensures h })
+    (λ h. subst AllVisible (sym c.name_at-name.ensures) h.name)

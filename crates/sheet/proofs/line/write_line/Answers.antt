@@ -7,37 +7,37 @@ use Rattle.sheet.proofs.line.write_line.Goals as goal
 short : (n : ℕ) → n < 2 ^ 64 → length (decimal n) ≤ 20
 short n h = length-decimal-le 20 n (lit< tt) (omega arith) h
 
-pub append-decimal-end-requires : goal.append-decimal-end-requires
-append-decimal-end-requires c =
+pub append_decimal-end-requires : goal.append_decimal-end-requires
+append_decimal-end-requires c =
     let end = c.append-end.ensures.end_is in
-    let number = short c.number.result c.number.type-inv in
+    let number = short c.number.result c.number.type_inv in
     let same = c.append-end.auto.output in
     omega arith
 
 pub append-end-requires-2 : goal.append-end-requires-2
 append-end-requires-2 c =
     let end = c.append-end.ensures.end_is in
-    let end-2 = c.append-decimal-end.ensures.end_is in
-    let number = short c.number.result c.number.type-inv in
+    let end-2 = c.append_decimal-end.ensures.end_is in
+    let number = short c.number.result c.number.type_inv in
     omega arith
 
-pub append-decimal-end-requires-2 : goal.append-decimal-end-requires-2
-append-decimal-end-requires-2 c =
+pub append_decimal-end-requires-2 : goal.append_decimal-end-requires-2
+append_decimal-end-requires-2 c =
     let end = c.append-end.ensures.end_is in
-    let end-2 = c.append-decimal-end.ensures.end_is in
+    let end-2 = c.append_decimal-end.ensures.end_is in
     let end-3 = c.append-end-2.ensures.end_is in
-    let number = short c.number.result c.number.type-inv in
-    let place = short c.place.result c.place.type-inv in
+    let number = short c.number.result c.number.type_inv in
+    let place = short c.place.result c.place.type_inv in
     omega arith
 
 pub append-requires : goal.append-requires
 append-requires c =
     let end = c.append-end.ensures.end_is in
-    let end-2 = c.append-decimal-end.ensures.end_is in
+    let end-2 = c.append_decimal-end.ensures.end_is in
     let end-3 = c.append-end-2.ensures.end_is in
-    let end-4 = c.append-decimal-end-2.ensures.end_is in
-    let number = short c.number.result c.number.type-inv in
-    let place = short c.place.result c.place.type-inv in
+    let end-4 = c.append_decimal-end-2.ensures.end_is in
+    let number = short c.number.result c.number.type_inv in
+    let place = short c.place.result c.place.type_inv in
     omega arith
 
 line_of : ℕ → ℕ → List ℕ
@@ -50,6 +50,6 @@ pieces number place first second third fourth fifth = appended_join (appended_jo
 pub returns : goal.returns
 unfolding line_of
 returns c =
-    let all = pieces c.number.result c.place.result c.append-end.ensures c.append-decimal-end.ensures c.append-end-2.ensures c.append-decimal-end-2.ensures c.append.ensures in
+    let all = pieces c.number.result c.place.result c.append-end.ensures c.append_decimal-end.ensures c.append-end-2.ensures c.append_decimal-end-2.ensures c.append.ensures in
     let line = subst₂ (λ n p. Appended 0 (line_of n p) c.args.output.now c.append.result c.append.new.output) c.number.ensures c.place.ensures all in
     appended_all line

@@ -18,11 +18,11 @@ pub returns-then-n-lt10 : goal.returns-then-n-lt10
 returns-then-n-lt10 t c =
     let n = c.args.n in
     let last : n % 10 ≡ n = omega arith in
-    let one = ap (λ d. d ∷ []) (c.last-digit.ensures ∙ ap (λ d. 48 + d) last) ∙ sym (decimal_digit n c.if-n-lt10.true) in
+    let one = ap (λ d. d ∷ []) (c.last_digit.ensures ∙ ap (λ d. 48 + d) last) ∙ sym (decimal_digit n c.if-n-lt10.true) in
     subst (λ ds. Appended c.args.at ds c.args.output.now c.append.result c.append.new.output) one c.append.ensures
 
-pub append-decimal-end-requires : goal.append-decimal-end-requires
-append-decimal-end-requires t c =
+pub append_decimal-end-requires : goal.append_decimal-end-requires
+append_decimal-end-requires t c =
     let more = longer c.args.n c.if-n-lt10.false c.ranges.n.fits in
     let room = c.requires in
     let less = c.decreases in
@@ -32,12 +32,12 @@ pub append-requires-2 : goal.append-requires-2
 append-requires-2 t c =
     let more = longer c.args.n c.if-n-lt10.false c.ranges.n.fits in
     let room = c.requires in
-    let end = c.append-decimal-end.ensures.end_is in
-    let same = c.append-decimal-end.auto.output in
+    let end = c.append_decimal-end.ensures.end_is in
+    let same = c.append_decimal-end.auto.output in
     omega arith
 
 pub returns : goal.returns
 returns t c =
     let n = c.args.n in
-    let all = ap (λ d. decimal (n / 10) ++ d ∷ []) c.last-digit.ensures ∙ sym (decimal_step n c.if-n-lt10.false c.ranges.n.fits) in
-    subst (λ ds. Appended c.args.at ds c.args.output.now c.append-2.result c.append-2.new.output) all (appended_join c.append-decimal-end.ensures c.append-2.ensures)
+    let all = ap (λ d. decimal (n / 10) ++ d ∷ []) c.last_digit.ensures ∙ sym (decimal_step n c.if-n-lt10.false c.ranges.n.fits) in
+    subst (λ ds. Appended c.args.at ds c.args.output.now c.append-2.result c.append-2.new.output) all (appended_join c.append_decimal-end.ensures c.append-2.ensures)

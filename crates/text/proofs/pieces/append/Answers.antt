@@ -7,10 +7,10 @@ returns c =
     let old = c.args.output.now in
     let at = c.args.at in
     let piece = c.args.piece.now in
-    let is = c.copy-from-slice.ensures.after in
+    let is = c.copy_from_slice.ensures.after in
     let long = ap length is in
     let k = at + length piece - at in
-    let written = c.copy-from-slice.new.self in
+    let written = c.copy_from_slice.new.self in
     record {
       end_is = refl;
       front = take-put_mid at k old written (at + length piece) (omega arith) (omega arith) ∙ ap (λ xs. take at old ++ xs) is;

@@ -7,4 +7,4 @@ pub returns : goal.returns
 returns g c =
     let below = g.A.Arena.game c.args.self.now.below in
     let low = ltb-true below.top 250 (sym c.stands.ensures ∙ c.if-not-stands.false) in
-    c.arc-count.ensures ∙ sym (swapped_count_reply below low c.args.v)
+    c.arc_count.ensures ∙ sym (swapped_count_reply below low c.args.v)

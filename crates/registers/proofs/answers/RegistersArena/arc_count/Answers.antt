@@ -2,12 +2,12 @@ use Rattle.std.proofs.Common.{arith}
 use Rattle.registers.proofs.Replies.{some_rows, absent_count, count_reply}
 use Rattle.registers.proofs.answers.RegistersArena.arc_count.Goals as goal
 
-pub nonzero-div-at : goal.nonzero-div-at
-nonzero-div-at c = some_rows c.in-Some.layer
+pub nonzero_div-at : goal.nonzero_div-at
+nonzero_div-at c = some_rows c.in-Some.layer
 
 pub returns-then-at-places : goal.returns-then-at-places
 returns-then-at-places c = absent_count c.args.self.now.layer c.in-Some.layer c.in-Some.is c.args.v (omega arith)
 
 pub returns : goal.returns
 returns c =
-    count_reply c.args.self.now.layer c.in-Some.layer c.in-Some.is c.args.v c.arcs-at.result (omega arith) c.arcs-at.ensures
+    count_reply c.args.self.now.layer c.in-Some.layer c.in-Some.is c.args.v c.arcs_at.result (omega arith) c.arcs_at.ensures

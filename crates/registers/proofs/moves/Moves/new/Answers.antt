@@ -1,8 +1,8 @@
 use Rattle.registers.proofs.Rows.{rows_found}
 use Rattle.registers.proofs.moves.Moves.new.Goals as goal
 
-pub update-table-requires : goal.update-table-requires
-update-table-requires c =
+pub update_table-requires : goal.update_table-requires
+update_table-requires c =
     record {
       some = c.requires.some;
       few = c.requires.few;
@@ -10,8 +10,8 @@ update-table-requires c =
       counted = rows_found c.args.registers c.args.top c.in-Some.count c.requires.some c.requires.few c.requires.low c.in-Some.ensures;
     }
 
-pub step-table-requires : goal.step-table-requires
-step-table-requires c =
+pub step_table-requires : goal.step_table-requires
+step_table-requires c =
     record {
       some = c.requires.some;
       few = c.requires.few;
@@ -19,9 +19,18 @@ step-table-requires c =
       counted = rows_found c.args.registers c.args.top c.in-Some.count c.requires.some c.requires.few c.requires.low c.in-Some.ensures;
     }
 
-pub invariant-of-result : goal.invariant-of-result
-invariant-of-result c =
+pub invariant_of-result : goal.invariant_of-result
+invariant_of-result c =
     let counted = rows_found c.args.registers c.args.top c.in-Some.count c.requires.some c.requires.few c.requires.low c.in-Some.ensures in
-    let updates = c.in-ok-updates.ensures in
-    let steps = c.in-ok-steps.ensures in
-    (c.requires.some, (c.requires.few, (c.requires.low, (counted, (updates.whole, (steps.whole, (updates.each, (steps.each, tt))))))))
+    let updates = c.in_ok-updates.ensures in
+    let steps = c.in_ok-steps.ensures in
+    record {
+      some = c.requires.some;
+      few = c.requires.few;
+      low = c.requires.low;
+      counted = counted;
+      wide = updates.whole;
+      deep = steps.whole;
+      updated = updates.each;
+      stepped = steps.each;
+    }

@@ -14,11 +14,16 @@ loop-i-preserved c =
     rw c.entry-rest.ensures.value
     (stage_more c.args.r c.args.top c.args.k c.loop-i.contents c.loop-i.i c.loop-i.limit c.loop-i.rest c.leading-limit.result c.loop-i-test.true c.loop-i.invariant c.leading-limit.ensures.under c.leading-limit.ensures.reached c.leading-limit.ensures.passed)
 
-pub invariant-of-result : goal.invariant-of-result
-invariant-of-result c =
+pub invariant_of-result : goal.invariant_of-result
+invariant_of-result c =
     let parts = range_parts c.args.r c.args.top c.requires.range in
     let inv = c.loop-i.invariant in
-    (inv.some, (inv.few, (inv.array, (∣ row_under c.args.top 10 (take c.args.r c.loop-i.contents) parts.2 inv.filling.row ∣₁, tt))))
+    record {
+      some = inv.some;
+      few = inv.few;
+      whole = inv.array;
+      ordered = ∣ row_under c.args.top 10 (take c.args.r c.loop-i.contents) parts.2 inv.filling.row ∣₁;
+    }
 
 pub returns : goal.returns
 returns c =

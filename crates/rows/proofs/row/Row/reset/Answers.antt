@@ -11,8 +11,8 @@ loop-i-preserved c =
     let whole = c.loop-i.invariant.whole in
     shifted_more c.args.self.contents c.loop-i.contents (c.args.self.registers - c.args.j) c.loop-i.i (omega arith) (omega arith) c.loop-i.invariant
 
-pub invariant-of-result : goal.invariant-of-result
-invariant-of-result c =
+pub invariant_of-result : goal.invariant_of-result
+invariant_of-result c =
     let n = c.args.self.registers in
     let j = c.args.j in
     let xs = c.args.self.contents in
@@ -21,7 +21,12 @@ invariant-of-result c =
     let new = shifted_all n j c.loop-i.i xs ys fits (omega arith) (omega arith) (omega arith) c.loop-i.invariant in
     let e = length-take-le n xs fits in
     let row = reset_row 10 j (take n xs) (row_told 10 (take n xs) c.args.self.ordered) (omega arith) (omega arith) in
-    (c.args.self.some, (c.args.self.few, (length-set ys (n - 1) 0 ∙ c.loop-i.invariant.whole ∙ c.args.self.whole, (∣ rw new row ∣₁, tt))))
+    record {
+      some = c.args.self.some;
+      few = c.args.self.few;
+      whole = length-set ys (n - 1) 0 ∙ c.loop-i.invariant.whole ∙ c.args.self.whole;
+      ordered = ∣ rw new row ∣₁;
+    }
 
 pub returns : goal.returns
 returns c =

@@ -17,15 +17,20 @@ loop-i-preserved c =
     ap (λ v. set ys i v) c.max.ensures ∙
     map_over_more (λ v. max v c.args.p) xs ys i (get_or ys i 0) inside c.loop-i.invariant (get_or_default ys i 0 (get_or ys i 0) inside')
 
-pub invariant-of-result : goal.invariant-of-result
-invariant-of-result c =
+pub invariant_of-result : goal.invariant_of-result
+invariant_of-result c =
     let n = c.args.self.registers in
     let p = c.args.p in
     let xs = c.args.self.contents in
     let ys = c.loop-i.contents in
     let new = updated_all n p xs ys c.loop-i.i (omega arith) (omega arith) c.loop-i.invariant in
     let row = updated_row 10 p (take n xs) (row_told 10 (take n xs) c.args.self.ordered) (omega arith) in
-    (c.args.self.some, (c.args.self.few, (updated_length p xs ys c.loop-i.i c.loop-i.invariant ∙ c.args.self.whole, (∣ rw new row ∣₁, tt))))
+    record {
+      some = c.args.self.some;
+      few = c.args.self.few;
+      whole = updated_length p xs ys c.loop-i.i c.loop-i.invariant ∙ c.args.self.whole;
+      ordered = ∣ rw new row ∣₁;
+    }
 
 pub returns : goal.returns
 returns c =

@@ -5,11 +5,16 @@ use Rattle.rows.specs.Views.{some_registers}
 use Rattle.rows.proofs.Held.{zeros_row, registers_true}
 use Rattle.rows.proofs.row.Row.zeros.Goals as goal
 
-pub invariant-of-result : goal.invariant-of-result
-invariant-of-result c =
+pub invariant_of-result : goal.invariant_of-result
+invariant_of-result c =
     let r = c.args.r in
     let few : r ≤ 5 = omega arith in
-    (omega arith, (few, (refl, (∣ rw (take-replicate {X = ℕ} r 5 0 few) (zeros_row 10 r) ∣₁, tt))))
+    record {
+      some = omega arith;
+      few = few;
+      whole = refl;
+      ordered = ∣ rw (take-replicate {X = ℕ} r 5 0 few) (zeros_row 10 r) ∣₁;
+    }
 
 pub returns : goal.returns
 returns c =
