@@ -6,7 +6,7 @@ use Rattle.std.proofs.lemmas.Bool.{cases_lt, lt-ltb, le-ltb, cond-true, cond-fal
 use Rattle.toolkit.proofs.Walks.{walk_mapped}
 use Rattle.game.specs.declared.Player.{Player}
 use Rattle.game.specs.declared.Arc.{Arc}
-use Rattle.game.specs.Game.{Game, arc_at}
+use Rattle.game.specs.Game.{Game}
 use Rattle.game.specs.Layers.{held, entry_at, restricted, alone}
 use Rattle.game.specs.Plans.{Plan, Follows, Wins}
 use Rattle.game.proofs.Arcs.{arc_there, arc_from, some_same, none_is_not_some}

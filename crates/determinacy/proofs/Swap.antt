@@ -6,7 +6,7 @@ use Rattle.std.proofs.lemmas.Bool.{lt-ltb, cond-true}
 use Rattle.toolkit.proofs.Walks.{walk_related_more, highest_raised, each_flipped}
 use Rattle.game.specs.declared.Player.{Player}
 use Rattle.game.specs.declared.Arc.{Arc}
-use Rattle.game.specs.Game.{Game, Lawful, rival, arc_at}
+use Rattle.game.specs.Game.{Game, rival, arc_at}
 use Rattle.game.specs.Layers.{swapped, raised}
 use Rattle.game.specs.Plans.{Follows, Wins, highest}
 use Rattle.game.proofs.Layers.{swapped_arc, swapped_arc_reply}

@@ -1,12 +1,12 @@
 -- The games with one loop, decided from the definition of winning.
-use Rattle.std.proofs.Common.{◌≡◌, ℕ, zero, suc, ◌%◌, ◌<◌, ◌≤◌, max, true, ltb, List, [], ◌∷◌, Some, sym, refl, ap, ◌∙◌, arith, lit<}
+use Rattle.std.proofs.Common.{◌≡◌, ℕ, zero, suc, ◌%◌, ◌≤◌, max, true, ltb, List, [], ◌∷◌, Some, sym, refl, ap, ◌∙◌, arith, lit<}
 use Rattle.std.proofs.lemmas.Bool.{ltb-true}
 use Rattle.std.specs.List.{slice_get}
 use Rattle.game.specs.declared.Player.{Player}
 use Rattle.game.specs.declared.Player.TheVariants.{Even, Odd}
 use Rattle.game.specs.declared.Arc.{Arc}
-use Rattle.game.specs.Game.{Game, parity, rival, arc_at}
-use Rattle.game.specs.Plans.{Plan, Follows, Walk, Wins, Winnable, Belongs, highest}
+use Rattle.game.specs.Game.{parity}
+use Rattle.game.specs.Plans.{Plan, Follows, Walk, Wins, Winnable, highest}
 use Rattle.game.specs.Plans.Walk.{stay, step}
 use Rattle.game.specs.Loops.{lone_loop, LoneLoopsDecided}
 use Rattle.game.proofs.Arcs.{arc_there, none_is_not_some}

@@ -1,8 +1,8 @@
 -- From what is measured over the layer to what is kept.
-use Rattle.std.proofs.Common.{◌≡◌, ℕ, ◌+◌, ◌*◌, ◌<◌, ◌≤◌, true, false, cond, ◌&&◌, ltb, leb, ◌⊎◌, ◌↔◌, List, length, get_or, Some, None, Option, unwrap_or, sym, refl, ap, ◌∙◌, subst, inl, inr, zero-mul, arith}
+use Rattle.std.proofs.Common.{◌≡◌, ℕ, ◌+◌, ◌*◌, ◌<◌, ◌≤◌, true, false, cond, ◌&&◌, ltb, leb, ◌⊎◌, ◌↔◌, List, length, get_or, Some, None, Option, unwrap_or, sym, ap, ◌∙◌, subst, inl, inr, zero-mul, arith}
 use Rattle.std.proofs.lemmas.Nat.{mul-add-lt}
 use Rattle.std.proofs.lemmas.Bool.{cases_lt, cases_Bool, cond-true, cond-false, and_from, le-leb, ltb-true, lt-ltb}
-use Rattle.game.specs.Game.{Game, Lawful}
+use Rattle.game.specs.Game.{Game}
 use Rattle.heights.specs.Climb.{lost}
 use Rattle.heights.specs.Sweeps.{height_in}
 use Rattle.rows.specs.Choose.{choose}
@@ -10,12 +10,11 @@ use Rattle.rows.specs.Views.{in_range}
 use Rattle.rows.proofs.Numbering.{rows_counted_lem}
 use Rattle.registers.specs.Layer.{arc_total, row_count, stands, layer, no_positions, registers}
 use Rattle.registers.specs.Arcs.{some_row}
-use Rattle.registers.specs.Laws.{Standing, standing}
-use Rattle.register_theory.specs.Kept.{Kept}
+use Rattle.registers.specs.Laws.{standing}
 use Rattle.register_theory.proofs.More.{kept_by_least}
 use Rattle.keeping.specs.declared.answer.Keeping.{Keeping}
-use Rattle.keeping.specs.Keeping.{Served, Told, Reply}
-use Rattle.keeping.specs.Measuring.{Laid, Left, Measured}
+use Rattle.keeping.specs.Keeping.{Served, Reply}
+use Rattle.keeping.specs.Measuring.{Laid, Measured}
 
 module _ (r : ℕ) (g : Game) where
   where_it_stands : stands r g ≡ true → registers r g ≡ layer r g

@@ -1,15 +1,14 @@
 -- The bytes of plans that win the same region differ only in the choices at own positions.
-use Rattle.std.proofs.Common.{◌≡◌, ℕ, zero, suc, ◌+◌, ◌<◌, ◌≤◌, Bool, true, false, cond, not, ◌&&◌, eqb, ltb, ◌⊎◌, List, [], ◌∷◌, length, get_or, sym, refl, ap, ◌∙◌, subst, inl, inr, arith}
-use Rattle.std.proofs.lemmas.Bool.{cases_Bool, and_parts, and_from, both_ways, lt-ltb, not-true, not_from_false, eqb-true, eqb-false, eq-eqb, ne_eqb}
+use Rattle.std.proofs.Common.{◌≡◌, ℕ, zero, suc, ◌+◌, ◌<◌, ◌≤◌, true, false, cond, not, eqb, ltb, List, [], ◌∷◌, length, get_or, sym, refl, ap, ◌∙◌, subst, inl, inr, arith}
+use Rattle.std.proofs.lemmas.Bool.{cases_Bool, and_parts, and_from, both_ways, lt-ltb, not-true, not_from_false, eqb-true, eqb-false, ne_eqb}
 use Rattle.toolkit.proofs.Lists.{same_lists_by}
 use Rattle.game.specs.declared.Player.{Player}
 use Rattle.game.specs.declared.Player.TheVariants.{Even, Odd}
 use Rattle.game.specs.Game.{Game, rival}
 use Rattle.game.specs.Dictionary.{Before}
-use Rattle.game.specs.Plans.{Plan}
 use Rattle.determinacy.specs.Statements.{WinsRegion}
 use Rattle.determinacy.proofs.Players.{cases_player}
-use Rattle.register_theory.specs.First.{Own, SameBelow, Earlier, FirstPlan}
+use Rattle.register_theory.specs.First.{Own, SameBelow, Earlier}
 use Rattle.plans.specs.Bytes.{byte, player_of, choice_byte, plan_of, WellFormed}
 use Rattle.plan_order.specs.Order.{FirstInBytes}
 

@@ -1,5 +1,5 @@
 -- The layer has least closed heights: the sweeps end in them.
-use Rattle.std.proofs.Common.{◌≡◌, ℕ, ◌+◌, ◌*◌, ◌<◌, ◌≤◌, true, List, length, replicate, sym, subst, inl, inr, zero-mul, arith}
+use Rattle.std.proofs.Common.{◌≡◌, ℕ, ◌+◌, ◌*◌, ◌≤◌, true, List, length, replicate, sym, subst, inl, inr, zero-mul, arith}
 use Rattle.std.proofs.lemmas.List.{length-replicate}
 use Rattle.std.proofs.lemmas.Bool.{cases_lt, cond-true}
 use Rattle.game.specs.Game.{Game, Lawful}

@@ -1,5 +1,5 @@
 -- The positions that have been read, one more at a time.
-use Rattle.std.proofs.Common.{◌≡◌, ℕ, zero, suc, ◌+◌, ◌<◌, ◌≤◌, Bool, true, false, ◌⊎◌, List, [], ◌∷◌, ◌++◌, length, get_or, replicate, sym, refl, ap, ◌∙◌, subst, inl, inr, append_assoc, append-nil, add-zero, add-suc, suc-add, arith, length-append}
+use Rattle.std.proofs.Common.{◌≡◌, ℕ, zero, suc, ◌+◌, ◌<◌, ◌≤◌, Bool, true, false, List, [], ◌∷◌, ◌++◌, length, get_or, replicate, sym, refl, ap, ◌∙◌, inl, inr, append_assoc, append-nil, add-zero, arith, length-append}
 use Rattle.std.proofs.lemmas.Bool.{cases_lt}
 use Rattle.game.specs.Lowest.{LowestWithout}
 use Rattle.game.specs.declared.Player.{Player}
@@ -9,8 +9,8 @@ use Rattle.table.specs.Sites.{Site}
 use Rattle.sheet.specs.declared.fault.SheetFault.TheVariants.{Short, Version, Large, Length, Position, Record, Repeated, Unused}
 use Rattle.sheet.specs.declared.fault.ReadFault.{ReadFault}
 use Rattle.sheet.specs.declared.fault.ReadFault.TheVariants.{Refused, Memory}
-use Rattle.sheet.specs.Layout.{positions, records, first_record, next_record, mover_byte, name_bytes, Recorded}
-use Rattle.sheet.specs.Chains.{Leads, Chains, flat, occurrences, arc_of, mover_of, mended, site_at, described, Fits, Describes}
+use Rattle.sheet.specs.Layout.{positions, records, first_record, mover_byte, name_bytes, Recorded}
+use Rattle.sheet.specs.Chains.{Leads, Chains, flat, occurrences, mover_of, mended, site_at, described, Describes}
 use Rattle.sheet.specs.Chains.Leads.{here, along}
 use Rattle.sheet.specs.Refusals.{ComesAgain, NeverComes}
 use Rattle.sheet.specs.Reading.{bit, MarksAdded, ChainRead, MarkedTwice, ChainStopped, PositionRead, AllRead, AllStopped, AllMarked}

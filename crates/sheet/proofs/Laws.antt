@@ -1,15 +1,15 @@
 -- The positions that a fitting sheet describes keep the laws of an arena.
-use Rattle.std.proofs.Common.{◌≡◌, ℕ, zero, suc, ◌+◌, ◌<◌, ◌≤◌, cond, eqb, ◌⊎◌, List, [], ◌∷◌, ◌++◌, map, length, get_or, Some, sym, refl, ap, ◌∙◌, subst, inl, inr, arith}
+use Rattle.std.proofs.Common.{◌≡◌, ℕ, zero, suc, ◌+◌, ◌<◌, ◌≤◌, List, [], ◌∷◌, map, length, get_or, Some, sym, refl, ap, ◌∙◌, inl, inr, arith}
 use Rattle.std.specs.List.{slice_get}
-use Rattle.std.proofs.lemmas.Bool.{cases_eq, cases_lt, eq-eqb, ne_eqb}
+use Rattle.std.proofs.lemmas.Bool.{cases_eq, eq-eqb, ne_eqb}
 use Rattle.game.specs.declared.Player.{Player}
 use Rattle.game.specs.declared.Player.TheVariants.{Even, Odd}
 use Rattle.game.specs.declared.Arc.{Arc}
 use Rattle.game.specs.Game.{arc_at}
 use Rattle.game.proofs.Arcs.{arc_there, none_is_not_some}
 use Rattle.table.specs.Sites.{Site, nowhere, game_of}
-use Rattle.sheet.specs.Layout.{positions, records, first_record, mover_byte, Recorded}
-use Rattle.sheet.specs.Chains.{Leads, Chains, flat, occurrences, Fits, arc_of, mover_of, losing, mended, site_at, described}
+use Rattle.sheet.specs.Layout.{positions, records, mover_byte, Recorded}
+use Rattle.sheet.specs.Chains.{Leads, flat, occurrences, Fits, arc_of, mover_of, losing, mended, site_at, described}
 use Rattle.sheet.specs.Chains.Leads.{here, along}
 use Rattle.sheet.proofs.Marks.{occurrences_append}
 

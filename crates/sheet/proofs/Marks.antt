@@ -1,10 +1,10 @@
 -- Going along a chain, one record at a time.
-use Rattle.std.proofs.Common.{◌≡◌, ℕ, zero, suc, ◌+◌, ◌<◌, ◌≤◌, Bool, true, false, cond, eqb, ◌⊎◌, List, [], ◌∷◌, ◌++◌, map, length, get_or, set, sym, refl, ap, ◌∙◌, subst, inl, inr, add-zero, add_assoc, zero-add, arith, length-set, get_or-set_other, get_or-set_same}
+use Rattle.std.proofs.Common.{◌≡◌, ℕ, zero, suc, ◌+◌, ◌<◌, ◌≤◌, Bool, true, false, List, [], ◌∷◌, ◌++◌, map, length, get_or, set, sym, refl, ap, ◌∙◌, subst, inl, inr, add-zero, zero-add, arith, length-set, get_or-set_other, get_or-set_same}
 use Rattle.std.proofs.lemmas.List.{map-append}
-use Rattle.std.proofs.lemmas.Bool.{cases_eq, cond-true, cond-false, eq-eqb, ne_eqb, true≢false}
+use Rattle.std.proofs.lemmas.Bool.{cases_eq, eq-eqb, ne_eqb, true≢false}
 use Rattle.game.specs.declared.Arc.{Arc}
-use Rattle.sheet.specs.Layout.{positions, records, first_record, next_record, Recorded, RecordFits, PositionFits}
-use Rattle.sheet.specs.Chains.{Leads, Chains, flat, occurrences, arc_of}
+use Rattle.sheet.specs.Layout.{positions, records, first_record, next_record, Recorded}
+use Rattle.sheet.specs.Chains.{Leads, occurrences, arc_of}
 use Rattle.sheet.specs.Chains.Leads.{here, along}
 use Rattle.sheet.specs.Reading.{bit, MarksAdded, ChainRead, MarkedTwice}
 

@@ -1,14 +1,13 @@
 -- What the steps of reading keep.
-use Rattle.std.specs.Prelude.{◌≡◌, ℕ, ◌+◌, ◌<◌, ◌≤◌, Bool, true, false, cond, List, map, length, get_or, replicate, slice_index_or}
+use Rattle.std.specs.Prelude.{◌≡◌, ℕ, ◌+◌, ◌<◌, ◌≤◌, Bool, true, false, List, map, length, get_or, replicate, slice_index_or}
 use Rattle.game.specs.Lowest.{LowestWithout}
 use Rattle.game.specs.declared.Arc.{Arc}
-use Rattle.table.specs.declared.position.Position.{Position as Place}
-use Rattle.table.specs.Sites.{Site, site_of, sites_of}
+use Rattle.table.specs.Sites.{Site}
 use Rattle.sheet.specs.declared.fault.SheetFault.{SheetFault}
 use Rattle.sheet.specs.declared.fault.SheetFault.TheVariants.{Short, Version, Large, Length, Position, Record, Repeated, Unused}
 use Rattle.sheet.specs.declared.fault.ReadFault.{ReadFault}
 use Rattle.sheet.specs.declared.fault.ReadFault.TheVariants.{Refused, Memory}
-use Rattle.sheet.specs.Layout.{positions, records, first_record}
+use Rattle.sheet.specs.Layout.{records, first_record}
 use Rattle.sheet.specs.Chains.{Leads, Chains, flat, occurrences, arc_of, site_at, described}
 use Rattle.sheet.specs.Refusals.{ComesAgain, Refuses}
 

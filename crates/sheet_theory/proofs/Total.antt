@@ -1,13 +1,13 @@
 -- Every sheet fits the layout or has a fault.
-use Rattle.std.proofs.Common.{◌≡◌, ℕ, zero, suc, ◌+◌, ◌-◌, ◌*◌, ◌<◌, ◌≤◌, ◌⊎◌, List, [], ◌∷◌, ◌++◌, length, get_or, sym, refl, ap, ◌∙◌, subst, inl, inr, append_assoc, append-nil, arith, length-append}
+use Rattle.std.proofs.Common.{◌≡◌, ℕ, zero, suc, ◌+◌, ◌-◌, ◌*◌, ◌<◌, ◌≤◌, ◌⊎◌, List, [], ◌∷◌, ◌++◌, length, get_or, sym, refl, ap, subst, inl, inr, append_assoc, append-nil, arith, length-append}
 use Rattle.std.proofs.lemmas.Bool.{cases_lt, cases_eq}
 use Rattle.game.specs.Lowest.{LowestWithout}
 use Rattle.table.specs.Sites.{Site}
 use Rattle.sheet.specs.declared.fault.SheetFault.{SheetFault}
 use Rattle.sheet.specs.declared.fault.SheetFault.TheVariants.{Short, Version, Large, Length, Position, Record, Repeated, Unused}
-use Rattle.sheet.specs.Layout.{byte, positions, records, mover_byte, first_record, name_bytes, priority_byte, target_byte, next_record, Opened, Sized, Headed, Placed, Recorded, PositionFits, RecordFits, AllVisible}
-use Rattle.sheet.specs.Chains.{Leads, Chains, flat, occurrences, Fits, described, Describes}
-use Rattle.sheet.specs.Chains.Leads.{here, along}
+use Rattle.sheet.specs.Layout.{byte, positions, records, mover_byte, first_record, name_bytes, priority_byte, target_byte, next_record, Opened, Headed, Placed, Recorded, PositionFits, RecordFits, AllVisible}
+use Rattle.sheet.specs.Chains.{Leads, Chains, flat, occurrences, described, Describes}
+use Rattle.sheet.specs.Chains.Leads.{here}
 use Rattle.sheet.specs.Refusals.{ComesAgain, NeverComes, Refuses}
 use Rattle.sheet_theory.specs.Complete.{FaultsComplete}
 use Rattle.sheet.proofs.Marks.{leads_more, occurrences_append, occurs_itself, occurs_apart}

@@ -1,12 +1,12 @@
 -- A sheet is read in one way, or refused for one reason.
-use Rattle.std.proofs.Common.{◌≡◌, ℕ, zero, suc, pred, ◌+◌, ◌-◌, ◌<◌, ◌≤◌, cond, eqb, ◌⊎◌, List, [], ◌∷◌, ◌++◌, length, get_or, take, sym, refl, ap, ◌∙◌, subst, inl, inr, append_assoc, arith, length-take}
-use Rattle.std.proofs.lemmas.Bool.{cases_order, cases_lt}
+use Rattle.std.proofs.Common.{◌≡◌, ℕ, zero, suc, pred, ◌+◌, ◌-◌, ◌<◌, ◌≤◌, cond, eqb, ◌⊎◌, List, [], ◌∷◌, ◌++◌, length, get_or, take, sym, refl, ap, ◌∙◌, subst, inl, inr, arith, length-take}
+use Rattle.std.proofs.lemmas.Bool.{cases_order}
 use Rattle.toolkit.proofs.Lists.{same_lists_by}
 use Rattle.game.specs.Lowest.{LowestWithout}
 use Rattle.table.specs.Sites.{Site}
 use Rattle.sheet.specs.declared.fault.SheetFault.{SheetFault}
 use Rattle.sheet.specs.declared.fault.SheetFault.TheVariants.{Short, Version, Large, Length, Position, Record, Repeated, Unused}
-use Rattle.sheet.specs.Layout.{byte, positions, records, first_record, next_record, Opened, Sized, Headed, Placed, Recorded, PositionFits, RecordFits}
+use Rattle.sheet.specs.Layout.{positions, records, first_record, Opened, Sized, Headed, Placed, Recorded}
 use Rattle.sheet.specs.Chains.{Leads, Chains, flat, occurrences, Fits, described, Describes}
 use Rattle.sheet.specs.Chains.Leads.{here, along}
 use Rattle.sheet.specs.Refusals.{number_of, place_of, ComesAgain, NeverComes, Refuses}

@@ -1,5 +1,5 @@
 -- The sites of a table, and that its game keeps the laws.
-use Rattle.std.specs.Prelude.{◌≤◌, List, length, vec_items}
+use Rattle.std.specs.Prelude.{List, vec_items}
 use Rattle.std.proofs.Common.{arith}
 use Rattle.game.specs.Game.{Lawful}
 use Rattle.table.specs.declared.table.Table.{Table}

@@ -1,4 +1,4 @@
-use Rattle.std.proofs.Common.{◌≡◌, ℕ, ◌+◌, cond, List, Some, None, Option, unwrap_or, ap, ◌∙◌, subst₂}
+use Rattle.std.proofs.Common.{◌≡◌, ℕ, ◌+◌, cond, Some, None, Option, unwrap_or, ap, ◌∙◌, subst₂}
 use Rattle.game.specs.Game.{Game}
 use Rattle.rows.specs.Choose.{choose}
 use Rattle.rows.specs.Views.{in_range}

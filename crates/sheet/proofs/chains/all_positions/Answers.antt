@@ -2,7 +2,7 @@ use Rattle.std.proofs.Common.{[], ◌∷◌, vec_items, ap, ◌∙◌}
 use Rattle.std.proofs.lemmas.List.{map-append}
 use Rattle.std.proofs.lemmas.Result.{err_from_is_err_and}
 use Rattle.table.specs.Sites.{site_of, sites_of}
-use Rattle.sheet.proofs.Gathered.{none_read, one_more_read, all_stop}
+use Rattle.sheet.proofs.Gathered.{one_more_read, all_stop}
 use Rattle.sheet.proofs.chains.all_positions.Goals as goal
 
 pub returns-in_err-position : goal.returns-in_err-position

@@ -1,6 +1,6 @@
-use Rattle.std.proofs.Common.{◌≡◌, ◌<◌, ◌≤◌, [], ◌∷◌, ◌++◌, length, set, vec_items, sym, ap, ◌∙◌, subst, arith}
+use Rattle.std.proofs.Common.{◌<◌, ◌≤◌, [], ◌∷◌, ◌++◌, length, vec_items, ap, ◌∙◌, arith}
 use Rattle.game.specs.declared.Arc.{Arc}
-use Rattle.sheet.proofs.Marks.{UnderWay, way_begins, way_room, way_goes_on, spare_falls}
+use Rattle.sheet.proofs.Marks.{way_begins, way_room, way_goes_on, spare_falls}
 use Rattle.sheet.proofs.chains.chain.Goals as goal
 
 pub loop-reached-init : goal.loop-reached-init

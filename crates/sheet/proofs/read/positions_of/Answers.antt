@@ -1,4 +1,3 @@
-use Rattle.std.proofs.Common.{◌≡◌, sym, ◌∙◌, subst}
 use Rattle.std.proofs.lemmas.Result.{err_from_is_err_and}
 use Rattle.sheet.proofs.Gathered.{describes_from, never_comes_from}
 use Rattle.sheet.proofs.read.positions_of.Goals as goal
