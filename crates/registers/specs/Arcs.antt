@@ -22,7 +22,7 @@ choose_next : (a b : ℕ) → choose a b ≤ choose (suc a) b
 choose_next a zero = omega arith
 choose_next a (suc b) = omega arith
 
-choose_grows : (a n b : ℕ) → a ≤ n → choose a b ≤ choose n b
+pub choose_grows : (a n b : ℕ) → a ≤ n → choose a b ≤ choose n b
 choose_grows a zero b h = let e : a ≡ 0 = omega arith in rw e (omega arith)
 choose_grows a (suc n) b h = elim (cases_lt n a) [
   | inl l ↦ let e : a ≡ suc n = omega arith in rw e (omega arith)

@@ -1,4 +1,6 @@
 // The theorems on a case: any list of its calls keeps the promises. Each function does nothing but have its theorem for a contract.
+#![tactic(auto)]
+
 ghost use Rattle.std.specs.Prelude.{ℕ};
 ghost use Rattle.game.specs.Game.{Game, Lawful};
 ghost use Rattle.case_rules.specs.Binary.{Log2Law};

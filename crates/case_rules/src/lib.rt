@@ -1,5 +1,6 @@
 // The rules of a case: what each of its calls answers, as a relation between states, and what is promised of any list of them. These are
 // definitions in specs/; here are the answers that are enums, with their numbers and places.
+#![tactic(auto)]
 
 mod fault;
 mod verdict;
