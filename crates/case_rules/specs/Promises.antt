@@ -1,6 +1,6 @@
 -- What holds at every point of any list of calls, in the words of plans and winning.
 use Rattle.std.specs.Prelude.{◌≡◌, ℕ, ◌+◌, ◌*◌, ◌^◌, ◌<◌, ◌≤◌, true, ◌⊎◌, ◌↔◌, List, ◌∷◌, ◌++◌, length, take, Some, ◌≢◌}
-use Rattle.std.specs.List.{AllByRecursion as All}
+use Rattle.std.specs.List.{AllByRecursion}
 use Rattle.game.specs.declared.Player.{Player}
 use Rattle.game.specs.Game.{Game}
 use Rattle.game.specs.Layers.{entry_at}
@@ -64,7 +64,7 @@ pub record HeldAt (events : List Event) (v a : ℕ) : Type 0 where
   pub among : Among events newer hold older
   pub unrefused : hold.reply.answer ≡ done
   pub holds : hold.call ≡ to_hold v a
-  pub none_later : All (λ e. Settles v e → ⊥) newer
+  pub none_later : AllByRecursion (λ e. Settles v e → ⊥) newer
 
 -- The outcome is that of the last solve.
 pub record LastSolve (events : List Event) (o : Outcome) : Type 0 where
@@ -73,11 +73,11 @@ pub record LastSolve (events : List Event) (o : Outcome) : Type 0 where
   pub solve : Event
   pub among : Among events newer solve older
   pub gave : solve.reply.answer ≡ solved o
-  pub none_later : All (λ e. (p : Outcome) → e.reply.answer ≢ solved p) newer
+  pub none_later : AllByRecursion (λ e. (p : Outcome) → e.reply.answer ≢ solved p) newer
 
 -- What holds of a list of calls and of the state that they lead to.
 pub record Promises (g : Game) (events : List Event) (s : State) : Type 0 where
-  pub each_sound : All (Sound g) events
+  pub each_sound : AllByRecursion (Sound g) events
   pub given_again : (e f : Event) (a b c d : List Event) → Among events a e b → Among events c f d → GivenAgain e f
   pub held_as_told : (v a : ℕ) → (entry_at s.entries v ≡ Some a) ↔ HeldAt events v a
   pub last_solve : (o : Outcome) → s.outcome ≡ Some o → LastSolve events o
