@@ -40,6 +40,7 @@ fn places(table: &Table, bytes: &[u8]) -> (Option<usize>, Option<usize>) {
 mod tests {
     use super::*;
     use sheet::read_sheet;
+    use std::test::Fail;
 
     // Position 0: Even moves, arcs to 1 with priority 1 and to 0 with priority 2. Position 1: Odd moves, one arc to 0 with priority 0.
     const ROOF: [u8; 25] = [
@@ -114,7 +115,7 @@ mod tests {
 
     // Sixteen positions without arc records: each has a loop by which its mover loses.
     #[test]
-    fn sixteen_positions(rt: HostRuntime) {
+    fn sixteen_positions(rt: HostRuntime) -> Result<(), Fail> {
         let mut sheet = [33u8; 100];
         sheet[0] = 1;
         sheet[1] = 16;
@@ -135,5 +136,6 @@ mod tests {
         // Even moves at position 14
         plan[16] = 0;
         assert_eq!(rt; judging(&table, &plan), Outcome::Loses(14));
+        Ok(())
     }
 }
