@@ -1,2 +1,4 @@
+pub mod Arcs
 pub mod Entries
 pub mod Names
+pub mod Totals

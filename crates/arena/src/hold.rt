@@ -1,5 +1,5 @@
 // Hold: positions below 16 may be restricted to one of their arcs.
-ghost use Rattle.std.specs.Prelude.{◌≡◌, replicate, if◌then◌else◌, Some, None, nat_lt, slice_set};
+ghost use Rattle.std.specs.Prelude.{◌≡◌, replicate, if◌then◌else◌, Some, None, is_ok, nat_lt, slice_set};
 ghost use Rattle.game.specs.Layers.{held, entry_at};
 ghost use Rattle.game.proofs.Layers.{held_lawful};
 ghost use Rattle.arena.specs.Entries.{left_of};
@@ -7,6 +7,10 @@ ghost use Rattle.arena.specs.Entries.{left_of};
 use super::named::{Name, Named};
 use super::questions::Arena;
 use game::{Arc, Player};
+
+// The position is not below 16, so it has no entry.
+#[derive(Clone, Copy, PartialEq, Eq, Debug)]
+pub struct NoEntry;
 
 // The entry of a position is free (`None`) or numbers an arc. A position whose entry numbers one of its arcs has only that arc,
 // as arc 0; an entry that numbers none of them changes nothing.
@@ -28,36 +32,41 @@ impl<A> Hold<A> {
         }
     }
 
-    // Sets the entry of a position below 16; false, and nothing changed, at any other position.
-    pub fn set(&mut self, v: usize, i: usize) -> bool
-        ensures done { result ≡ nat_lt v 16 }
+    // Sets the entry of a position.
+    pub fn set(&mut self, v: usize, i: usize) -> Result<(), NoEntry>
+        ensures done { is_ok result ≡ nat_lt v 16 }
         ensures below { self.new.below ≡ self.old.below }
         ensures entries { self.new.entries ≡ (if nat_lt v 16 then slice_set self.old.entries v (Some i) else self.old.entries) }
     {
-        if v >= 16 {
-            return false;
-        }
-        self.entries[v] = Some(i);
-        true
+        self.enter(v, Some(i))
     }
 
-    // Frees the entry of a position below 16; false, and nothing changed, at any other position.
-    pub fn clear(&mut self, v: usize) -> bool
-        ensures done { result ≡ nat_lt v 16 }
+    // Frees the entry of a position.
+    pub fn clear(&mut self, v: usize) -> Result<(), NoEntry>
+        ensures done { is_ok result ≡ nat_lt v 16 }
         ensures below { self.new.below ≡ self.old.below }
         ensures entries { self.new.entries ≡ (if nat_lt v 16 then slice_set self.old.entries v None else self.old.entries) }
     {
-        if v >= 16 {
-            return false;
+        self.enter(v, None)
+    }
+
+    // Writes an entry; a position that has none is refused, and nothing changed.
+    fn enter(&mut self, v: usize, entry: Option<usize>) -> Result<(), NoEntry>
+        ensures done { is_ok result ≡ nat_lt v 16 }
+        ensures below { self.new.below ≡ self.old.below }
+        ensures entries { self.new.entries ≡ (if nat_lt v 16 then slice_set self.old.entries v entry else self.old.entries) }
+    {
+        if v >= self.entries.len() {
+            return Err(NoEntry);
         }
-        self.entries[v] = None;
-        true
+        self.entries[v] = entry;
+        Ok(())
     }
 
     fn entry(&self, v: usize) -> Option<usize>
         ensures { result ≡ entry_at self.now.entries v }
     {
-        if v < 16 { self.entries[v] } else { None }
+        self.entries.get(v).copied().flatten()
     }
 }
 

@@ -1,5 +1,5 @@
 // Swap: the movers exchanged, and each priority and top one higher, so that what was Odd's to win is Even's.
-ghost use Rattle.std.specs.Prelude.{◌≡◌, ◌<◌, nat_lt};
+ghost use Rattle.std.specs.Prelude.{◌≡◌, ◌<◌, ◌≤◌, MatchOption};
 ghost use Rattle.game.specs.Layers.{raised, swapped};
 ghost use Rattle.game.proofs.Layers.{swapped_lawful};
 
@@ -13,11 +13,16 @@ pub struct Swap<A> {
 }
 
 impl<A: Arena> Swap<A> {
-    // Over an arena with top 250 a raised priority would break the laws, so the layer has no positions there.
-    fn stands(&self) -> bool
-        ensures { result ≡ nat_lt (A.game self.now.below).top 250 }
+    // The arena below, where the layer stands. Over an arena with top 250 a raised priority would break the laws, so the layer has no
+    // positions there.
+    fn standing(&self) -> Option<&A>
+        ensures { MatchOption result (250 ≤ (A.game self.now.below).top) (λ a. ((A.game self.now.below).top < 250) × (a.now ≡ self.now.below)) }
     {
-        self.below.top() < 250
+        if self.below.top() < 250 {
+            Some(&self.below)
+        } else {
+            None
+        }
     }
 }
 
@@ -26,8 +31,8 @@ fn raised(arc: Arc) -> Arc
     ensures { result ≡ raised arc }
 {
     Arc {
-        target: arc.target,
         priority: arc.priority + 1,
+        ..arc
     }
 }
 
@@ -37,37 +42,24 @@ impl<A: Arena> Arena for Swap<A> {
     ghost lawful = { λ s. swapped_lawful (A.Arena.game s.below) (A.Arena.lawful s.below) };
 
     fn size(&self) -> usize {
-        if self.stands() { self.below.size() } else { 0 }
+        self.standing().map_or(0, |below| below.size())
     }
 
     fn top(&self) -> u8 {
-        if self.stands() {
-            self.below.top() + 1
-        } else {
-            0
-        }
+        self.standing().map_or(0, |below| below.top() + 1)
     }
 
     fn mover(&self, v: usize) -> Option<Player> {
-        if !self.stands() {
-            return None;
-        }
-        let mover = self.below.mover(v)?;
+        let mover = self.standing()?.mover(v)?;
         Some(mover.rival())
     }
 
     fn arc_count(&self, v: usize) -> Option<usize> {
-        if !self.stands() {
-            return None;
-        }
-        self.below.arc_count(v)
+        self.standing()?.arc_count(v)
     }
 
     fn arc(&self, v: usize, i: usize) -> Option<Arc> {
-        if !self.stands() {
-            return None;
-        }
-        let arc = self.below.arc(v, i)?;
+        let arc = self.standing()?.arc(v, i)?;
         Some(raised(arc))
     }
 }
@@ -76,9 +68,6 @@ impl<A: Named> Named for Swap<A> {
     ghost names = { λ s. A.Named.names s.below };
 
     fn name(&self, v: usize) -> Option<Name> {
-        if !self.stands() {
-            return None;
-        }
-        self.below.name(v)
+        self.standing()?.name(v)
     }
 }

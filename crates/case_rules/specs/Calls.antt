@@ -1,9 +1,9 @@
 -- The seven calls with all that they bring, the replies with what the buffers then hold, and the states of a case.
 use Rattle.std.specs.Prelude.{ℕ, List, [], replicate, None, Option}
+use Rattle.game.specs.declared.Player.{Player}
 use Rattle.game.specs.Game.{Game}
 use Rattle.game.specs.Layers.{held}
 use Rattle.plans.specs.declared.mark.Mark.{Mark}
-use Rattle.case_rules.specs.declared.verdict.Verdict.{Verdict}
 use Rattle.case_rules.specs.Outcomes.{Outcome}
 
 -- hold: position and arc. free: position. solve: registers wanted, and cells. verdict: position. issue: player, output and cells. check: the plan's bytes.
@@ -20,7 +20,7 @@ pub data Call : Type 0 where
 pub data Answer : Type 0 where
   done : Answer
   solved : Outcome → Answer
-  told : Verdict → Answer
+  told : Option Player → Answer
   written : ℕ → Answer
   marked : Mark → Answer
   refused : ℕ → ℕ → Answer

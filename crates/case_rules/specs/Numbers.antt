@@ -1,18 +1,17 @@
 -- The numbers and places of verdicts and faults.
-use Rattle.std.specs.Prelude.{ℕ}
+use Rattle.std.specs.Prelude.{ℕ, Some, None, Option}
+use Rattle.game.specs.declared.Player.{Player}
 use Rattle.game.specs.Game.{parity}
 use Rattle.plans.specs.Refusals.{number_of, place_of}
-use Rattle.case_rules.specs.declared.verdict.Verdict.{Verdict}
-use Rattle.case_rules.specs.declared.verdict.Verdict.TheVariants.{Won, Open}
 use Rattle.case_rules.specs.declared.fault.CaseFault.{CaseFault}
 use Rattle.case_rules.specs.declared.fault.CaseFault.TheVariants as case
 use Rattle.case_rules.specs.declared.fault.IssueFault.{IssueFault}
 use Rattle.case_rules.specs.declared.fault.IssueFault.TheVariants as issue
 
 -- Even 0, Odd 1, open 2.
-abbrev pub verdict_number : Verdict → ℕ
-verdict_number (Won player) = parity player
-verdict_number Open = 2
+abbrev pub verdict_number : Option Player → ℕ
+verdict_number (Some player) = parity player
+verdict_number None = 2
 
 abbrev pub case_number : CaseFault → ℕ
 case_number case.Limits = 10

@@ -1,5 +1,5 @@
 -- What a solve gives, and what plans issue is to choose from.
-use Rattle.std.specs.Prelude.{◌≡◌, ℕ, zero, suc, ◌+◌, ◌<◌, ◌≤◌, Bool, true, ◌&&◌, ◌⊎◌, ◌↔◌, List, Option, ◌==◌}
+use Rattle.std.specs.Prelude.{◌≡◌, ℕ, zero, suc, ◌+◌, ◌<◌, ◌≤◌, Bool, true, ◌&&◌, ◌⊎◌, ◌↔◌, List, Option, ◌==◌, Some, None}
 use Rattle.game.specs.declared.Player.{Player}
 use Rattle.game.specs.declared.Player.TheVariants.{Even, Odd}
 use Rattle.game.specs.Game.{Game}
@@ -10,8 +10,6 @@ use Rattle.heights.specs.Sweeps.{Takes}
 use Rattle.registers.specs.Layer.{registers}
 use Rattle.register_theory.specs.First.{solved_for, KeptFor}
 use Rattle.plans.specs.Bytes.{player_of, plan_of, WellFormed}
-use Rattle.case_rules.specs.declared.verdict.Verdict.{Verdict}
-use Rattle.case_rules.specs.declared.verdict.Verdict.TheVariants.{Won, Open}
 use Rattle.case_rules.specs.Limits.{within, needed, IsUsed}
 
 -- What a solved case knows: the registers used and needed, whether the solve was full, the raises, and each position's verdict.
@@ -20,17 +18,17 @@ pub record Outcome : Type 0 where
   pub needed : ℕ
   pub full : Bool
   pub raises : ℕ
-  pub verdicts : ℕ → Verdict
+  pub verdicts : ℕ → Option Player
 
 -- The verdict of r registers on a position of the arena as held: the player for whom they keep it, or open where they keep it for neither.
-abbrev pub Decides : ℕ → Game → ℕ → Verdict → Type 0
-Decides r h v (Won player) = KeptFor r h player v
-Decides r h v Open = (player : Player) → KeptFor r h player v → ⊥
+abbrev pub Decides : ℕ → Game → ℕ → Option Player → Type 0
+Decides r h v (Some player) = KeptFor r h player v
+Decides r h v None = (player : Player) → KeptFor r h player v → ⊥
 
 -- With no registers every verdict is open. What stands where there is no position is open too.
-pub record Decided (r : ℕ) (h : Game) (verdicts : ℕ → Verdict) : Type 0 where
+pub record Decided (r : ℕ) (h : Game) (verdicts : ℕ → Option Player) : Type 0 where
   pub by_registers : (v : ℕ) → 1 ≤ r → v < h.size → Decides r h v (verdicts v)
-  pub by_none : (v : ℕ) → (r ≡ 0) ⊎ (h.size ≤ v) → verdicts v ≡ Open
+  pub by_none : (v : ℕ) → (r ≡ 0) ⊎ (h.size ≤ v) → verdicts v ≡ None
 
 -- How many raises the sweeps take that find what is kept for the player, and those of both players together; with no registers there are none.
 abbrev pub RaisesFor : ℕ → Game → Player → ℕ → Type 0

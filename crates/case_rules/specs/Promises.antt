@@ -1,5 +1,5 @@
 -- What holds at every point of any list of calls, in the words of plans and winning.
-use Rattle.std.specs.Prelude.{◌≡◌, ℕ, ◌+◌, ◌*◌, ◌^◌, ◌<◌, ◌≤◌, true, ◌⊎◌, ◌↔◌, List, ◌∷◌, ◌++◌, length, take, Some, ◌≢◌}
+use Rattle.std.specs.Prelude.{◌≡◌, ℕ, ◌+◌, ◌*◌, ◌^◌, ◌<◌, ◌≤◌, true, ◌⊎◌, ◌↔◌, List, ◌∷◌, ◌++◌, length, take, Some, ◌≢◌, None}
 use Rattle.std.specs.List.{AllByRecursion}
 use Rattle.game.specs.declared.Player.{Player}
 use Rattle.game.specs.Game.{Game}
@@ -7,7 +7,6 @@ use Rattle.game.specs.Layers.{entry_at}
 use Rattle.game.specs.Plans.{Wins, Belongs}
 use Rattle.plans.specs.declared.mark.Mark.TheVariants.{Passes}
 use Rattle.plans.specs.Bytes.{plan_of, WellFormed}
-use Rattle.case_rules.specs.declared.verdict.Verdict.TheVariants.{Won, Open}
 use Rattle.case_rules.specs.Limits.{within, needed, cells_for}
 use Rattle.case_rules.specs.Outcomes.{Outcome, FirstWinning}
 use Rattle.case_rules.specs.Calls.{Call, Reply, State, as_held}
@@ -23,8 +22,8 @@ Among events newer e older = events ≡ newer ++ e ∷ older
 -- Every verdict that a solve gives to a player is true on the arena as held: the position belongs to that player. A full solve leaves no position open.
 -- The raises are at most 2 · cells(used) · n^(used+1).
 pub record SolveTrue (g : Game) (s : State) (o : Outcome) : Type 0 where
-  pub belongs : (player : Player) (v : ℕ) → o.verdicts v ≡ Won player → Belongs (as_held g s) player v
-  pub none_open : (v : ℕ) → o.full ≡ true → v < g.size → o.verdicts v ≢ Open
+  pub belongs : (player : Player) (v : ℕ) → o.verdicts v ≡ Some player → Belongs (as_held g s) player v
+  pub none_open : (v : ℕ) → o.full ≡ true → v < g.size → o.verdicts v ≢ None
   pub few_raises : o.raises ≤ 2 * cells_for g o.used * g.size ^ (o.used + 1)
 
 -- What issue replies on a full solve, given a player, output and cells enough: a winning plan of the player, claiming exactly the positions with that
@@ -37,12 +36,12 @@ pub record Enough (g : Game) (player : ℕ) (output cells : List ℕ) (o : Outco
 
 pub record PlanGiven (g : Game) (e : Event) (player : ℕ) (o : Outcome) : Type 0 where
   pub replied : e.reply.answer ≡ written (g.size + 2)
-  pub first_winning : FirstWinning (as_held g e.before) (numbered player) (λ v. o.verdicts v ≡ Won (numbered player)) (take (g.size + 2) e.reply.output)
+  pub first_winning : FirstWinning (as_held g e.before) (numbered player) (λ v. o.verdicts v ≡ Some (numbered player)) (take (g.size + 2) e.reply.output)
 
 -- What each call of the list keeps.
 pub record Sound (g : Game) (e : Event) : Type 0 where
   pub solve_true : (o : Outcome) → e.after.outcome ≡ Some o → SolveTrue g e.after o
-  pub verdict_true : (player : Player) (v : ℕ) → e.call ≡ to_verdict v → e.reply.answer ≡ told (Won player) → Belongs (as_held g e.before) player v
+  pub verdict_true : (player : Player) (v : ℕ) → e.call ≡ to_verdict v → e.reply.answer ≡ told (Some player) → Belongs (as_held g e.before) player v
   pub check_exact : (plan : List ℕ) → e.call ≡ to_check plan → within g ≡ true → WellFormed (as_held g e.before) plan → (e.reply.answer ≡ marked Passes) ↔ Wins (as_held g e.before) (plan_of g.size plan)
   pub issue_first : (player : ℕ) (output cells : List ℕ) (o : Outcome) → e.call ≡ to_issue player output cells → e.before.outcome ≡ Some o → Enough g player output cells o → PlanGiven g e player o
 
@@ -50,7 +49,7 @@ pub record Sound (g : Game) (e : Event) : Type 0 where
 abbrev pub GivenAgain : Event → Event → Type 0
 GivenAgain e f =
     (o p : Outcome) → e.reply.answer ≡ solved o → f.reply.answer ≡ solved p → ((v : ℕ) → entry_at e.before.entries v ≡ entry_at f.before.entries v) → o.used ≤ p.used →
-    (player : Player) (v : ℕ) → o.verdicts v ≡ Won player → p.verdicts v ≡ Won player
+    (player : Player) (v : ℕ) → o.verdicts v ≡ Some player → p.verdicts v ≡ Some player
 
 -- The event is an unrefused hold or free at the position.
 abbrev pub Settles : ℕ → Event → Type 0

@@ -1,8 +1,8 @@
 // Why a call on a case is refused. Each fault has a number and a place.
-ghost use Rattle.std.specs.Prelude.{◌≡◌};
 ghost use Rattle.case_rules.specs.Numbers.{case_number, case_place, issue_number, issue_place};
 
 use plans::PlanFault;
+use text::Fault;
 
 // The faults of hold, free, verdict and check.
 #[derive(Clone, Copy, PartialEq, Eq, Debug)]
@@ -17,11 +17,13 @@ pub enum CaseFault {
     Plan(PlanFault),
 }
 
-impl CaseFault {
-    pub fn number(self) -> usize
-        ensures { result ≡ case_number self }
-    {
-        match self {
+impl Fault for CaseFault {
+    ghost number_of = { case_number };
+
+    ghost place_of = { case_place };
+
+    fn number(&self) -> usize {
+        match *self {
             CaseFault::Limits => 10,
             CaseFault::Position(_) => 11,
             CaseFault::Arc(_) => 12,
@@ -29,10 +31,8 @@ impl CaseFault {
         }
     }
 
-    pub fn place(self) -> usize
-        ensures { result ≡ case_place self }
-    {
-        match self {
+    fn place(&self) -> usize {
+        match *self {
             CaseFault::Limits => 0,
             CaseFault::Position(v) | CaseFault::Arc(v) => v,
             CaseFault::Plan(fault) => fault.place(),
@@ -55,11 +55,13 @@ pub enum IssueFault {
     Cells(usize),
 }
 
-impl IssueFault {
-    pub fn number(self) -> usize
-        ensures { result ≡ issue_number self }
-    {
-        match self {
+impl Fault for IssueFault {
+    ghost number_of = { issue_number };
+
+    ghost place_of = { issue_place };
+
+    fn number(&self) -> usize {
+        match *self {
             IssueFault::Limits => 10,
             IssueFault::Player => 13,
             IssueFault::NotFull => 14,
@@ -68,10 +70,8 @@ impl IssueFault {
         }
     }
 
-    pub fn place(self) -> usize
-        ensures { result ≡ issue_place self }
-    {
-        match self {
+    fn place(&self) -> usize {
+        match *self {
             IssueFault::Limits | IssueFault::Player | IssueFault::NotFull => 0,
             IssueFault::Output(wanted) | IssueFault::Cells(wanted) => wanted,
         }

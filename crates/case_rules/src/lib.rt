@@ -6,4 +6,4 @@ mod fault;
 mod verdict;
 
 pub use fault::{CaseFault, IssueFault};
-pub use verdict::Verdict;
+pub use verdict::verdict_number;

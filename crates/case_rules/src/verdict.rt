@@ -1,24 +1,16 @@
-// Who wins a position, as far as a solve has told.
+// Who wins a position, as far as a solve has told: `None` where the position is open.
 ghost use Rattle.std.specs.Prelude.{◌≡◌};
 ghost use Rattle.case_rules.specs.Numbers.{verdict_number};
 
 use game::Player;
 
-#[derive(Clone, Copy, PartialEq, Eq, Debug)]
-pub enum Verdict {
-    Won(Player),
-    // neither player's
-    Open,
-}
-
-impl Verdict {
-    pub fn number(self) -> usize
-        ensures { result ≡ verdict_number self }
-    {
-        match self {
-            Verdict::Won(Player::Even) => 0,
-            Verdict::Won(Player::Odd) => 1,
-            Verdict::Open => 2,
-        }
+// The number of a verdict.
+pub fn verdict_number(verdict: Option<Player>) -> usize
+    ensures { result ≡ verdict_number verdict }
+{
+    match verdict {
+        Some(Player::Even) => 0,
+        Some(Player::Odd) => 1,
+        None => 2,
     }
 }

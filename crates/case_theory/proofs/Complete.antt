@@ -18,8 +18,6 @@ use Rattle.plans.specs.Refusals.{number_of, place_of}
 use Rattle.plans.proofs.Complete.{faults_complete}
 use Rattle.plans.proofs.Winning.{marks_complete}
 use Rattle.game.specs.Plans.{Belongs}
-use Rattle.case_rules.specs.declared.verdict.Verdict.{Verdict}
-use Rattle.case_rules.specs.declared.verdict.Verdict.TheVariants.{Won, Open}
 use Rattle.case_rules.specs.Limits.{within, needed, cells_for, Fitting, IsUsed}
 use Rattle.case_rules.specs.Outcomes.{Outcome, Decides, Decided, RaisesFor, Raised, Solves}
 use Rattle.case_rules.specs.Calls.{Call, Reply, plain, output_of, cells_of, State, unsolved, as_held}
@@ -83,12 +81,12 @@ module _ (g : Game) (lawful : Lawful g) (entries : List (Option ℕ)) where
           | inr out ↦ inr (λ kept. (let below = tells.0 kept in omega arith))
         ]
 
-    one_verdict : (v : ℕ) → v < g.size → (x : Verdict) × Decides r (held entries g) v x
+    one_verdict : (v : ℕ) → v < g.size → (x : Option Player) × Decides r (held entries g) v x
     one_verdict v there = elim (kept_or_not Even v there) [
-      | inl kept ↦ (Won Even, kept)
+      | inl kept ↦ (Some Even, kept)
       | inr not_even ↦ elim (kept_or_not Odd v there) [
-        | inl kept ↦ (Won Odd, kept)
-        | inr not_odd ↦ (Open, neither v not_even not_odd)
+        | inl kept ↦ (Some Odd, kept)
+        | inr not_odd ↦ (None, neither v not_even not_odd)
       ]
     ]
       where
@@ -96,13 +94,13 @@ module _ (g : Game) (lawful : Lawful g) (entries : List (Option ℕ)) where
         neither v not_even not_odd Even = not_even
         neither v not_even not_odd Odd = not_odd
 
-    verdict_at : (v : ℕ) → (x : Verdict) × (v < g.size → Decides r (held entries g) v x) × (g.size ≤ v → x ≡ Open)
+    verdict_at : (v : ℕ) → (x : Option Player) × (v < g.size → Decides r (held entries g) v x) × (g.size ≤ v → x ≡ None)
     verdict_at v = elim (cases_lt v g.size) [
       | inl there ↦ (let (x, says) = one_verdict v there in (x, (λ _. says), λ past. absurd (omega arith)))
-      | inr past ↦ (Open, (λ there. absurd (omega arith)), λ _. refl)
+      | inr past ↦ (None, (λ there. absurd (omega arith)), λ _. refl)
     ]
 
-    all_verdicts : (verdicts : ℕ → Verdict) × Decided r (held entries g) verdicts
+    all_verdicts : (verdicts : ℕ → Option Player) × Decided r (held entries g) verdicts
     all_verdicts = (
       λ v. (verdict_at v).0,
       record {
@@ -117,8 +115,8 @@ module _ (g : Game) (lawful : Lawful g) (entries : List (Option ℕ)) where
         let top = swept_top g lawful entries r some few player in
         sweeps_take_lem.some g.size r (registers r (solved_for player (held entries g))) one (swept_lawful g lawful entries r some few player) (omega arith)
 
-  some_verdicts : (r : ℕ) → r ≤ needed g → (verdicts : ℕ → Verdict) × Decided r (held entries g) verdicts
-  some_verdicts zero few = ((λ v. Open), record { by_registers = λ v some there. absurd (omega arith); by_none = λ v _. refl })
+  some_verdicts : (r : ℕ) → r ≤ needed g → (verdicts : ℕ → Option Player) × Decided r (held entries g) verdicts
+  some_verdicts zero few = ((λ v. None), record { by_registers = λ v some there. absurd (omega arith); by_none = λ v _. refl })
   some_verdicts (suc r) few = all_verdicts (suc r) (omega arith) few
 
   all_raises : (r : ℕ) → r ≤ needed g → (k : ℕ) × Raised r (held entries g) k

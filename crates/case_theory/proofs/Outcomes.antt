@@ -1,5 +1,6 @@
 -- What the outcome of a solve says: its verdicts are true, more registers give them again, and those of a full solve are exact.
-use Rattle.std.proofs.Common.{◌≡◌, ℕ, zero, suc, ◌+◌, ◌*◌, ◌^◌, ◌<◌, ◌≤◌, true, eqb, ◌↔◌, List, Option, sym, ap, ◌∙◌, subst, inl, inr, arith}
+use Rattle.std.proofs.Common.{◌≡◌, ℕ, zero, suc, ◌+◌, ◌*◌, ◌^◌, ◌<◌, ◌≤◌, true, eqb, ◌↔◌, List, Option, sym, ap, ◌∙◌, subst, inl, inr, arith, Some, None}
+use Rattle.std.proofs.lemmas.Option.{none-some}
 use Rattle.std.proofs.lemmas.Nat.{mul-le}
 use Rattle.std.proofs.lemmas.Bool.{cases_lt, and_parts, eqb-true}
 use Rattle.game.specs.declared.Player.{Player}
@@ -19,24 +20,16 @@ use Rattle.register_theory.proofs.Cells.{stands_layer}
 use Rattle.register_theory.proofs.First.{kept_for_exact}
 use Rattle.register_theory.proofs.More.{still_kept}
 use Rattle.register_theory.proofs.Sound.{kept_is_won_lem, kept_swapped_is_won_lem}
-use Rattle.case_rules.specs.declared.verdict.Verdict.{Verdict}
-use Rattle.case_rules.specs.declared.verdict.Verdict.TheVariants.{Won, Open}
 use Rattle.case_rules.specs.Limits.{within, needed, cells_for}
 use Rattle.case_rules.specs.Outcomes.{Outcome, Decides, Decided, RaisesFor, Raised, Solves}
 use Rattle.case_theory.proofs.Sizes.{within_says, needed_few, some_needed, needed_says, solved_size, layer_small, needed_solvable}
 
-pub won_not_open : (player : Player) → Won player ≡ Open → ⊥
-won_not_open player e = let z : ◌≡◌ {A = ℕ} 0 1 = cc in omega arith
-
-pub won_same : (a b : Player) → Won a ≡ Won b → a ≡ b
-won_same a b e = cc
-
 -- a verdict for a player comes from registers that keep the position
-pub decided_won : {r : ℕ} {h : Game} {verdicts : ℕ → Verdict} → Decided r h verdicts → (player : Player) (v : ℕ) → verdicts v ≡ Won player → (1 ≤ r) × (v < h.size) × KeptFor r h player v
+pub decided_won : {r : ℕ} {h : Game} {verdicts : ℕ → Option Player} → Decided r h verdicts → (player : Player) (v : ℕ) → verdicts v ≡ Some player → (1 ≤ r) × (v < h.size) × KeptFor r h player v
 decided_won {r} {h} {verdicts} decided player v won = elim (cases_lt 0 r) [
-  | inr none ↦ absurd (won_not_open player (sym won ∙ decided.by_none v (inl (omega arith))))
+  | inr none ↦ absurd (none-some player (sym (decided.by_none v (inl (omega arith))) ∙ won))
   | inl some ↦ elim (cases_lt v h.size) [
-    | inr past ↦ absurd (won_not_open player (sym won ∙ decided.by_none v (inr past)))
+    | inr past ↦ absurd (none-some player (sym (decided.by_none v (inr past)) ∙ won))
     | inl there ↦ (some, there, subst (Decides r h v) won (decided.by_registers v some there))
   ]
 ]
@@ -96,9 +89,9 @@ module _ (g : Game) (lawful : Lawful g) (entries : List (Option ℕ)) where
     ]
 
     -- so the verdict is the player's for whom it is kept
-    pub decides_kept : (player : Player) (v : ℕ) (verdict : Verdict) → v < g.size → Decides r (held entries g) v verdict → KeptFor r (held entries g) player v → verdict ≡ Won player
-    decides_kept player v (Won other) there says kept = ap Won (kept_for_one player other v there kept says)
-    decides_kept player v Open there says kept = absurd (says player kept)
+    pub decides_kept : (player : Player) (v : ℕ) (verdict : Option Player) → v < g.size → Decides r (held entries g) v verdict → KeptFor r (held entries g) player v → verdict ≡ Some player
+    decides_kept player v (Some other) there says kept = ap Some (kept_for_one player other v there kept says)
+    decides_kept player v None there says kept = absurd (says player kept)
 
     -- the layer that is swept for a player
     pub swept_lawful : (player : Player) → Lawful (registers r (solved_for player (held entries g)))
@@ -132,13 +125,13 @@ module _ (g : Game) (lawful : Lawful g) (entries : List (Option ℕ)) where
     used_few = solves.is_used.fitting.1
 
     -- a verdict for a player is true
-    pub verdict_belongs : (player : Player) (v : ℕ) → o.verdicts v ≡ Won player → Belongs (held entries g) player v
+    pub verdict_belongs : (player : Player) (v : ℕ) → o.verdicts v ≡ Some player → Belongs (held entries g) player v
     verdict_belongs player v won =
         let (some, there, kept) = decided_won solves.decided player v won in
         kept_belongs o.used some used_few player v there kept
 
     -- and a solve with no fewer registers used gives it again
-    pub verdict_again : {wanted' room' : ℕ} {p : Outcome} → Solves g entries wanted' room' p → o.used ≤ p.used → (player : Player) (v : ℕ) → o.verdicts v ≡ Won player → p.verdicts v ≡ Won player
+    pub verdict_again : {wanted' room' : ℕ} {p : Outcome} → Solves g entries wanted' room' p → o.used ≤ p.used → (player : Player) (v : ℕ) → o.verdicts v ≡ Some player → p.verdicts v ≡ Some player
     verdict_again {p = p} other more player v won =
         let (some, there, kept) = decided_won solves.decided player v won in
         let few = other.is_used.fitting.1 in
@@ -154,7 +147,7 @@ module _ (g : Game) (lawful : Lawful g) (entries : List (Option ℕ)) where
         (parts.0, eqb-true o.used o.needed parts.1 ∙ solves.is_needed)
 
     -- its verdicts are exact
-    pub full_exact : o.full ≡ true → (player : Player) (v : ℕ) → v < g.size → (o.verdicts v ≡ Won player) ↔ Winnable (held entries g) player v
+    pub full_exact : o.full ≡ true → (player : Player) (v : ℕ) → v < g.size → (o.verdicts v ≡ Some player) ↔ Winnable (held entries g) player v
     full_exact full player v there = (
       λ won. (verdict_belongs player v won).winnable,
       λ won.
@@ -165,8 +158,8 @@ module _ (g : Game) (lawful : Lawful g) (entries : List (Option ℕ)) where
           decides_kept o.used some used_few player v (o.verdicts v) there (solves.decided.by_registers v some there) kept,
     )
 
-    pub none_open : (v : ℕ) → o.full ≡ true → v < g.size → o.verdicts v ≡ Open → ⊥
+    pub none_open : (v : ℕ) → o.full ≡ true → v < g.size → o.verdicts v ≡ None → ⊥
     none_open v full there is_open = elim (winnable_or_rivals (held entries g) lawful_held Even v there) [
-      | inl won ↦ won_not_open Even (sym ((full_exact full Even v there).1 won) ∙ is_open)
-      | inr won ↦ won_not_open Odd (sym ((full_exact full Odd v there).1 won) ∙ is_open)
+      | inl won ↦ none-some Even (sym is_open ∙ (full_exact full Even v there).1 won)
+      | inr won ↦ none-some Odd (sym is_open ∙ (full_exact full Odd v there).1 won)
     ]

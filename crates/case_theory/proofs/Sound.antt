@@ -1,16 +1,14 @@
 -- What each call keeps: verdicts are true, a plan passes check exactly when it wins, and issue gives the first winning plan.
 use Rattle.std.proofs.Common.{◌≡◌, ℕ, ◌+◌, true, leb, ◌↔◌, List, length, Some, None, Option, sym, refl, ap, ◌∙◌, subst, inl, inr, arith}
 use Rattle.std.proofs.lemmas.Bool.{le-leb}
+use Rattle.std.proofs.lemmas.Option.{none-some}
 use Rattle.game.specs.declared.Player.{Player}
 use Rattle.game.specs.Game.{Game, Lawful}
 use Rattle.game.specs.Plans.{Wins, Belongs}
-use Rattle.game.proofs.Arcs.{none_is_not_some}
 use Rattle.plans.specs.declared.mark.Mark.TheVariants.{Passes}
 use Rattle.plans.specs.Bytes.{plan_of, WellFormed}
 use Rattle.plans.proofs.Complete.{faults_complete}
 use Rattle.plans.proofs.Winning.{marks_complete}
-use Rattle.case_rules.specs.declared.verdict.Verdict.{Verdict}
-use Rattle.case_rules.specs.declared.verdict.Verdict.TheVariants.{Won}
 use Rattle.case_rules.specs.Limits.{within, needed, cells_for}
 use Rattle.case_rules.specs.Outcomes.{Outcome, FirstWinning}
 use Rattle.case_rules.specs.Calls.{Call, Answer, Reply, State, as_held}
@@ -22,13 +20,13 @@ use Rattle.case_theory.proofs.Outcomes.{verdict_belongs, none_open, few_raises, 
 use Rattle.case_theory.proofs.Issuing.{belongs_exact, first_winning_alike}
 use Rattle.case_theory.proofs.Steps.{answered, refused_not, event, testing_true, Sane, stays_sane}
 
-told_same : (a b : Verdict) → told a ≡ told b → a ≡ b
+told_same : (a b : Option Player) → told a ≡ told b → a ≡ b
 told_same a b e = cc
 
 -- a call for which no refusal applies is served
 pub served : (g : Game) (s t : State) (c : Call) (r : Reply) → refusal g s c ≡ None → Answers g s c r t → Serves g s c r t
 served g s t c r none answers = elim (answered g s t c r answers) [
-  | inl (f, some, _) ↦ absurd (none_is_not_some f (sym none ∙ some))
+  | inl (f, some, _) ↦ absurd (none-some f (sym none ∙ some))
   | inr (_, serves) ↦ serves
 ]
 
@@ -42,15 +40,15 @@ passes_so h plan (marked mark) so formed wins = ap marked (marks_complete.one_ma
 passes_so h plan (refused number place) (fault, refuses, _, _) formed wins = absurd (faults_complete.not_both h plan fault formed refuses)
 
 module _ (g : Game) (lawful : Lawful g) (s t : State) (r : Reply) (sane : Sane g s) where
-  told_true : (player : Player) (v : ℕ) (q : Option Outcome) → s.outcome ≡ q → ToldSo q v r → r.answer ≡ told (Won player) → Belongs (as_held g s) player v
+  told_true : (player : Player) (v : ℕ) (q : Option Outcome) → s.outcome ≡ q → ToldSo q v r → r.answer ≡ told (Some player) → Belongs (as_held g s) player v
   told_true player v None is so e = absurd so
   told_true player v (Some o) is so e =
       let (_, _, solves) = sane.solved_so o is in
-      verdict_belongs g lawful s.entries solves player v (told_same (o.verdicts v) (Won player) (sym (ap (λ (y : Reply). y.answer) so) ∙ e))
+      verdict_belongs g lawful s.entries solves player v (told_same (o.verdicts v) (Some player) (sym (ap (λ (y : Reply). y.answer) so) ∙ e))
 
-  verdict_true : (player : Player) (v : ℕ) → Answers g s (to_verdict v) r t → r.answer ≡ told (Won player) → Belongs (as_held g s) player v
+  verdict_true : (player : Player) (v : ℕ) → Answers g s (to_verdict v) r t → r.answer ≡ told (Some player) → Belongs (as_held g s) player v
   verdict_true player v answers e = elim (answered g s t (to_verdict v) r answers) [
-    | inl (f, _, refuses) ↦ absurd (refused_not g s t r (to_verdict v) f (told (Won player)) refuses e (λ z. omega arith))
+    | inl (f, _, refuses) ↦ absurd (refused_not g s t r (to_verdict v) f (told (Some player)) refuses e (λ z. omega arith))
     | inr (_, (so, _)) ↦ told_true player v s.outcome refl so e
   ]
 
@@ -76,10 +74,10 @@ module _ (g : Game) (lawful : Lawful g) (s t : State) (r : Reply) (sane : Sane g
       (served g s t (to_issue player output cells) r (issue_unrefused player output cells o is enough) answers).0
 
   -- what belongs to the player are the positions with the player's verdict
-  plan_given : (player : Player) (o : Outcome) (bytes : List ℕ) → s.outcome ≡ Some o → o.full ≡ true → FirstWinning (as_held g s) player (Belongs (as_held g s) player) bytes → FirstWinning (as_held g s) player (λ v. o.verdicts v ≡ Won player) bytes
+  plan_given : (player : Player) (o : Outcome) (bytes : List ℕ) → s.outcome ≡ Some o → o.full ≡ true → FirstWinning (as_held g s) player (Belongs (as_held g s) player) bytes → FirstWinning (as_held g s) player (λ v. o.verdicts v ≡ Some player) bytes
   plan_given player o bytes is full =
       let (_, _, solves) = sane.solved_so o is in
-      first_winning_alike (as_held g s) player (Belongs (as_held g s) player) (λ v. o.verdicts v ≡ Won player) (λ v there.
+      first_winning_alike (as_held g s) player (Belongs (as_held g s) player) (λ v. o.verdicts v ≡ Some player) (λ v there.
       let mine = belongs_exact (as_held g s) player v there in
       let told = full_exact g lawful s.entries solves full player v there in
       (λ belongs. told.1 (mine.0 belongs), λ verdict. mine.1 (told.0 verdict))) bytes

@@ -2,9 +2,9 @@
 use Rattle.std.proofs.Common.{◌≡◌, ℕ, ◌+◌, ◌<◌, Bool, true, cond, ltb, ◌⊎◌, List, length, get_or, set, Some, None, Option, sym, refl, ap, ◌∙◌, subst, inl, inr, arith}
 use Rattle.std.proofs.lemmas.List.{length-set, get_or-set_same, get_or-set_other}
 use Rattle.std.proofs.lemmas.Bool.{cases_Bool, cases_eq, cond-true, cond-false, lt-ltb, ltb-true}
+use Rattle.std.proofs.lemmas.Option.{none-some, same_Some}
 use Rattle.game.specs.Game.{Game}
 use Rattle.game.specs.Layers.{entry_at}
-use Rattle.game.proofs.Arcs.{none_is_not_some, some_same}
 use Rattle.case_rules.specs.Limits.{within}
 use Rattle.case_rules.specs.Outcomes.{Outcome, Solves}
 use Rattle.case_rules.specs.Calls.{Call, Answer, Reply, plain, State, unsolved, opened, as_held}
@@ -27,7 +27,7 @@ answered g s t c r (_, replies) = by (refusal g s c) refl replies
 pub tested : (test : Bool) (number place : ℕ) (rest : Option Refusal) → testing test number place rest ≡ None → (test ≡ true) × (rest ≡ None)
 tested test number place rest e = elim (cases_Bool test) [
   | inl holds ↦ (holds, sym (cond-true test rest _ holds) ∙ e)
-  | inr fails ↦ absurd (none_is_not_some _ (sym e ∙ cond-false test rest _ fails))
+  | inr fails ↦ absurd (none-some _ (sym e ∙ cond-false test rest _ fails))
 ]
 
 pub testing_true : (test : Bool) (number place : ℕ) (rest : Option Refusal) → test ≡ true → testing test number place rest ≡ rest
@@ -39,10 +39,10 @@ pub record Sane (g : Game) (s : State) : Type 0 where
   pub solved_so : (o : Outcome) → s.outcome ≡ Some o → (wanted room : ℕ) × Solves g s.entries wanted room o
 
 pub opened_sane : (g : Game) → Sane g opened
-opened_sane g = record { whole = refl; solved_so = λ o e. absurd (none_is_not_some o e) }
+opened_sane g = record { whole = refl; solved_so = λ o e. absurd (none-some o e) }
 
 unsolved_sane : (g : Game) (entries : List (Option ℕ)) → length entries ≡ 16 → Sane g (unsolved entries)
-unsolved_sane g entries long = record { whole = long; solved_so = λ o e. absurd (none_is_not_some o e) }
+unsolved_sane g entries long = record { whole = long; solved_so = λ o e. absurd (none-some o e) }
 
 served_sane : (g : Game) (s t : State) (c : Call) (r : Reply) → Sane g s → Serves g s c r t → Sane g t
 served_sane g s t (to_hold v a) r sane (_, next) = subst (Sane g) (sym next) (unsolved_sane g _ (length-set s.entries v (Some a) ∙ sane.whole))
@@ -128,17 +128,17 @@ module _ (g : Game) (s t : State) (r : Reply) where
 
 -- where a case is solved after a call, the call gave the outcome, or it was there before
 left_by : (g : Game) (s t : State) (c : Call) (r : Reply) (o : Outcome) → Serves g s c r t → t.outcome ≡ Some o → (r.answer ≡ solved o) ⊎ (s.outcome ≡ Some o)
-left_by g s t (to_hold v a) r o (_, next) e = absurd (none_is_not_some o (sym (ap (λ (u : State). u.outcome) next) ∙ e))
-left_by g s t (to_free v) r o (_, next) e = absurd (none_is_not_some o (sym (ap (λ (u : State). u.outcome) next) ∙ e))
+left_by g s t (to_hold v a) r o (_, next) e = absurd (none-some o (sym (ap (λ (u : State). u.outcome) next) ∙ e))
+left_by g s t (to_free v) r o (_, next) e = absurd (none-some o (sym (ap (λ (u : State). u.outcome) next) ∙ e))
 left_by g s t (to_solve wanted cells) r o (_, so) e = inl (ap (λ (y : Reply). y.answer) (subst (SolvedSo g s.entries wanted cells r) e so).1)
-left_by g s t to_reopen r o (_, next) e = absurd (none_is_not_some o (sym (ap (λ (u : State). u.outcome) next) ∙ e))
+left_by g s t to_reopen r o (_, next) e = absurd (none-some o (sym (ap (λ (u : State). u.outcome) next) ∙ e))
 left_by g s t (to_verdict v) r o (_, next) e = inr (sym (ap (λ (u : State). u.outcome) next) ∙ e)
 left_by g s t (to_issue player output cells) r o (_, next) e = inr (sym (ap (λ (u : State). u.outcome) next) ∙ e)
 left_by g s t (to_check plan) r o (_, _, next) e = inr (sym (ap (λ (u : State). u.outcome) next) ∙ e)
 
 pub outcome_from : (g : Game) (s t : State) (c : Call) (r : Reply) (o : Outcome) → Answers g s c r t → t.outcome ≡ Some o → (r.answer ≡ solved o) ⊎ ((s.outcome ≡ Some o) × ((p : Outcome) → r.answer ≡ solved p → ⊥))
 outcome_from g s t c r o answers e = elim (solved_or_not r.answer) [
-  | inl (p, gives) ↦ inl (gives ∙ ap solved (some_same p o (sym (gave g s t r c answers p gives).1 ∙ e)))
+  | inl (p, gives) ↦ inl (gives ∙ ap solved (same_Some p o (sym (gave g s t r c answers p gives).1 ∙ e)))
   | inr none ↦ elim (answered g s t c r answers) [
     | inl (_, _, (_, next)) ↦ inr (sym (ap (λ (u : State). u.outcome) next) ∙ e, none)
     | inr (_, serves) ↦ elim (left_by g s t c r o serves e) [
@@ -185,11 +185,11 @@ module _ (g : Game) (s t : State) (r : Reply) where
   LeavesAlone c v = (Settles v (event c) → ⊥) × (entry_at t.entries v ≡ entry_at s.entries v)
 
   neither : (c : Call) (v : ℕ) → settled_at c ≡ None → t.entries ≡ s.entries → LeavesAlone c v
-  neither c v none same = ((λ settles. none_is_not_some v (sym none ∙ settles_at v (event c) settles)), ap (λ xs. entry_at xs v) same)
+  neither c v none same = ((λ settles. none-some v (sym none ∙ settles_at v (event c) settles)), ap (λ xs. entry_at xs v) same)
 
   elsewhere : (c : Call) (w v : ℕ) (x : Option ℕ) → settled_at c ≡ Some w → (v ≡ w → ⊥) → t.entries ≡ set s.entries w x → LeavesAlone c v
   elsewhere c w v x at apart next = (
-    λ settles. apart (sym (some_same w v (sym at ∙ settles_at v (event c) settles))),
+    λ settles. apart (sym (same_Some w v (sym at ∙ settles_at v (event c) settles))),
     ap (λ xs. entry_at xs v) next ∙ set_elsewhere s.entries w v x apart,
   )
 

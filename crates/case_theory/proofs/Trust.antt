@@ -3,9 +3,9 @@ use Rattle.std.proofs.Common.{◌≡◌, ℕ, ltb, ◌⊎◌, ◌↔◌, List, [
 use Rattle.std.specs.List.{AllByRecursion as All}
 use Rattle.std.proofs.lemmas.List.{get_or-replicate}
 use Rattle.std.proofs.lemmas.Bool.{cases_lt, cond-true, cond-false, lt-ltb, le-ltb}
+use Rattle.std.proofs.lemmas.Option.{none-some, same_Some}
 use Rattle.game.specs.Game.{Game, Lawful}
 use Rattle.game.specs.Layers.{entry_at}
-use Rattle.game.proofs.Arcs.{none_is_not_some, some_same}
 use Rattle.case_rules.specs.Outcomes.{Outcome, Solves}
 use Rattle.case_rules.specs.Calls.{Call, Reply, State, opened}
 use Rattle.case_rules.specs.Calls.Call.{to_hold, to_free}
@@ -51,7 +51,7 @@ module _ (g : Game) (lawful : Lawful g) where
       verdict_again g lawful f.before.entries (solves_same g e.before.entries f.before.entries same solves) others more player v won
 
   last_solve : {events : List Event} {s : State} → Run g events s → (o : Outcome) → s.outcome ≡ Some o → LastSolve events o
-  last_solve opening o is = absurd (none_is_not_some o is)
+  last_solve opening o is = absurd (none-some o is)
   last_solve (calling {events} {s} run c r t answers) o is = elim (outcome_from g s t c r o answers is) [
     | inl gives ↦ record { newer = []; older = events; solve = event g s t r c; among = refl; gave = gives; none_later = tt }
     | inr (before, none) ↦
@@ -93,10 +93,10 @@ module _ (g : Game) (events : List Event) (s t : State) (c : Call) (r : Reply) (
     hold = event g s t r c;
     among = refl;
     unrefused = unrefused;
-    holds = is ∙ ap (to_hold v) (some_same b a (sym at ∙ e));
+    holds = is ∙ ap (to_hold v) (same_Some b a (sym at ∙ e));
     none_later = tt;
   }
-  now_held (inr (inl (_, _, at))) before e = absurd (none_is_not_some a (sym at ∙ e))
+  now_held (inr (inl (_, _, at))) before e = absurd (none-some a (sym at ∙ e))
   now_held (inr (inr (not_here, same))) before e =
       let last = before (sym same ∙ e) in
       record {
@@ -134,7 +134,7 @@ module _ (g : Game) (events : List Event) (s t : State) (c : Call) (r : Reply) (
 module _ (g : Game) where
   held_as_told : {events : List Event} {s : State} → Run g events s → (v a : ℕ) → (entry_at s.entries v ≡ Some a) ↔ HeldAt events v a
   held_as_told opening v a = (
-    λ e. absurd (none_is_not_some a (sym (nothing_held v) ∙ e)),
+    λ e. absurd (none-some a (sym (nothing_held v) ∙ e)),
     λ h. absurd (none_among h.newer h.hold h.older h.among),
   )
   held_as_told (calling {events} {s} run c r t answers) v a =

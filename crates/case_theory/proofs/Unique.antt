@@ -15,8 +15,6 @@ use Rattle.plans.specs.Refusals.{number_of, place_of}
 use Rattle.plans.proofs.Complete.{faults_complete}
 use Rattle.plans.proofs.Winning.{marks_complete}
 use Rattle.game.specs.Plans.{Belongs}
-use Rattle.case_rules.specs.declared.verdict.Verdict.{Verdict}
-use Rattle.case_rules.specs.declared.verdict.Verdict.TheVariants.{Won, Open}
 use Rattle.case_rules.specs.Limits.{within, needed, IsUsed}
 use Rattle.case_rules.specs.Outcomes.{Outcome, Decides, Decided, Raised, Solves, FirstWinning}
 use Rattle.case_rules.specs.Calls.{Call, Answer, Reply, plain, State, as_held}
@@ -57,12 +55,12 @@ abbrev pub solve_reply : Game → List ℕ → Outcome → Reply
 solve_reply g cells o = record { answer = solved o; output = []; cells = cleared_after g o.used cells }
 
 module _ (g : Game) (lawful : Lawful g) (entries : List (Option ℕ)) where
-  decides_once : (r v : ℕ) (x y : Verdict) → 1 ≤ r → r ≤ needed g → v < g.size → Decides r (held entries g) v x → Decides r (held entries g) v y → x ≡ y
-  decides_once r v (Won player) y some few there one two = sym (decides_kept g lawful entries r some few player v y there two one)
-  decides_once r v Open (Won player) some few there one two = decides_kept g lawful entries r some few player v Open there one two
-  decides_once r v Open Open some few there one two = refl
+  decides_once : (r v : ℕ) (x y : Option Player) → 1 ≤ r → r ≤ needed g → v < g.size → Decides r (held entries g) v x → Decides r (held entries g) v y → x ≡ y
+  decides_once r v (Some player) y some few there one two = sym (decides_kept g lawful entries r some few player v y there two one)
+  decides_once r v None (Some player) some few there one two = decides_kept g lawful entries r some few player v None there one two
+  decides_once r v None None some few there one two = refl
 
-  decided_once : (r : ℕ) (a b : ℕ → Verdict) → r ≤ needed g → Decided r (held entries g) a → Decided r (held entries g) b → (v : ℕ) → a v ≡ b v
+  decided_once : (r : ℕ) (a b : ℕ → Option Player) → r ≤ needed g → Decided r (held entries g) a → Decided r (held entries g) b → (v : ℕ) → a v ≡ b v
   decided_once r a b few one two v = elim (cases_lt 0 r) [
     | inr none ↦ both (one.by_none v (inl (omega arith))) (two.by_none v (inl (omega arith)))
     | inl some ↦ elim (cases_lt v g.size) [

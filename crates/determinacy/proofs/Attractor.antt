@@ -21,10 +21,7 @@ abbrev pub Far : Game → (ℕ → ℕ → Bool) → (ℕ → Bool) → ℕ → 
 Far g hit into v k = (hit v k ≡ false) × (into (to g v k) ≡ false)
 
 near_or_far : (g : Game) (hit : ℕ → ℕ → Bool) (into : ℕ → Bool) (v k : ℕ) → Near g hit into v k ⊎ Far g hit into v k
-near_or_far g hit into v k = elim (cases_Bool (hit v k)) [
-  | inl h ↦ inl (inl h)
-  | inr h ↦ elim (cases_Bool (into (to g v k))) [ inl t ↦ inl (inr t) | inr t ↦ inr (h, t) ]
-]
+near_or_far g hit into v k = grind arith
 
 module _ (g : Game) (set : ℕ → Bool) (bound : ℕ) (player : Player) (hit : ℕ → ℕ → Bool) where
   -- at v the player can, or the rival must, come nearer

@@ -2,18 +2,19 @@
 use Rattle.std.proofs.Common.{◌≡◌, ℕ, zero, suc, ◌%◌, ◌<◌, ◌≤◌, Bool, true, false, ◌⊎◌, List, [], ◌∷◌, length, get_or, Some, refl, ap, ◌∙◌, subst, inl, inr, arith, lit<, lit≤}
 use Rattle.std.specs.List.{slice_get, AllByRecursion as All}
 use Rattle.std.proofs.lemmas.Bool.{both_ways}
+use Rattle.std.proofs.lemmas.List.{get_or_past}
+use Rattle.std.proofs.lemmas.List.Elements.{All-get_or, All-from_recursion}
+use Rattle.std.proofs.lemmas.Option.{slice_get_within, get_or_from_slice_get, none-some, same_Some}
 use Rattle.toolkit.proofs.Walks.{walk_meets, highest_at_most, no_closed_walk}
 use Rattle.game.specs.declared.Arc.{Arc}
 use Rattle.game.specs.Game.{Lawful, arc_at, parity}
 use Rattle.game.specs.Plans.{Plan, Follows, Walk, Wins, highest}
-use Rattle.game.proofs.Arcs.{arc_there, some_same, none_is_not_some}
+use Rattle.game.proofs.Arcs.{arc_there}
 use Rattle.determinacy.specs.Example.{example, even_plan, odd_plan}
 
 -- what holds of each arc of a list holds of the one that is read
 all_nth : (P : Arc → Type 0) (xs : List Arc) (i : ℕ) (a : Arc) → All P xs → slice_get xs i ≡ Some a → P a
-all_nth P [] i a h e = absurd (none_is_not_some a e)
-all_nth P (x ∷ xs) zero a h e = subst P (some_same x a e) h.0
-all_nth P (x ∷ xs) (suc i) a h e = all_nth P xs i a h.1 e
+all_nth P xs i a h e = rw (get_or_from_slice_get xs i a a e) at (All-get_or {X = Arc} P xs i a (slice_get_within xs i a e) (All-from_recursion P xs h))
 
 abbrev Fits : Arc → Type 0
 Fits a = (a.target < 4) × (a.priority ≤ 5)
@@ -88,26 +89,24 @@ module _ (s : Plan) (high mid : ℕ) (below : mid ≤ high) where
       good_move u w p m = rw (← m.leads, ← m.costs) (good u m.number m.arc m.claimed m.chosen (arc_there example u m.number m.arc m.is_arc).1)
 
 even_good : GoodArcs even_plan 4 2 (lit≤ tt)
-even_good zero i a claimed chosen e = subst (Good even_plan 4 2 0) (some_same _ a (rw (chosen refl) at e)) (refl, inl refl)
+even_good zero i a claimed chosen e = subst (Good even_plan 4 2 0) (same_Some _ a (rw (chosen refl) at e)) (refl, inl refl)
 even_good (suc zero) i a claimed chosen e = absurd (both_ways false refl claimed)
 even_good (suc (suc zero)) i a claimed chosen e =
     all_nth (Good even_plan 4 2 2) (example.arcs 2) i a ((refl, inr (inr (lit≤ tt, lit< tt))), ((refl, inr (inl refl)), tt)) e
 even_good (suc (suc (suc zero))) i a claimed chosen e = absurd (both_ways false refl claimed)
-even_good (suc (suc (suc (suc u)))) i a claimed chosen e = absurd (none_is_not_some a e)
+even_good (suc (suc (suc (suc u)))) i a claimed chosen e = absurd (none-some a e)
 
 odd_good : GoodArcs odd_plan 5 3 (lit≤ tt)
 odd_good zero i a claimed chosen e = absurd (both_ways false refl claimed)
-odd_good (suc zero) i a claimed chosen e = subst (Good odd_plan 5 3 1) (some_same _ a (rw (chosen refl) at e)) (refl, inr (inl refl))
+odd_good (suc zero) i a claimed chosen e = subst (Good odd_plan 5 3 1) (same_Some _ a (rw (chosen refl) at e)) (refl, inr (inl refl))
 odd_good (suc (suc zero)) i a claimed chosen e = absurd (both_ways false refl claimed)
 odd_good (suc (suc (suc zero))) i a claimed chosen e =
     all_nth (Good odd_plan 5 3 3) (example.arcs 3) i a ((refl, inl refl), ((refl, inr (inr (lit≤ tt, lit< tt))), tt)) e
-odd_good (suc (suc (suc (suc u)))) i a claimed chosen e = absurd (none_is_not_some a e)
+odd_good (suc (suc (suc (suc u)))) i a claimed chosen e = absurd (none-some a e)
 
 -- a list of claims claims nothing past its end
 claims_end : (bs : List Bool) (v : ℕ) → get_or bs v false ≡ true → v < length bs
-claims_end [] v claimed = absurd (both_ways false refl claimed)
-claims_end (b ∷ bs) zero claimed = omega arith
-claims_end (b ∷ bs) (suc v) claimed = let h = claims_end bs v claimed in omega arith
+claims_end bs v claimed = grind (arith, get_or_past)
 
 even_choices : (v : ℕ) → even_plan.choice v < 2
 even_choices zero = lit< tt

@@ -1,7 +1,7 @@
 -- The held game: where an arc is held it is the only one.
 use Rattle.std.proofs.Common.{◌≡◌, ℕ, zero, suc, ◌<◌, true, cond, ltb, ◌⊎◌, List, [], ◌∷◌, length, get_or, is_some, Some, None, Option, unwrap_or, sym, refl, ap, ◌∙◌, inl, inr, arith}
 use Rattle.std.specs.List.{slice_get}
-use Rattle.std.proofs.lemmas.Option.{slice_get-get_or, slice_get_past}
+use Rattle.std.proofs.lemmas.Option.{slice_get-get_or, slice_get_past, same_Some}
 use Rattle.std.proofs.lemmas.Bool.{cases_lt, lt-ltb, le-ltb, cond-true, cond-false}
 use Rattle.toolkit.proofs.Walks.{walk_mapped}
 use Rattle.game.specs.declared.Player.{Player}
@@ -9,7 +9,7 @@ use Rattle.game.specs.declared.Arc.{Arc}
 use Rattle.game.specs.Game.{Game}
 use Rattle.game.specs.Layers.{held, entry_at, restricted, alone}
 use Rattle.game.specs.Plans.{Plan, Follows, Wins}
-use Rattle.game.proofs.Arcs.{arc_there, arc_from, some_same, none_is_not_some}
+use Rattle.game.proofs.Arcs.{arc_there, arc_from}
 use Rattle.determinacy.specs.Layers.{held_number, OwnEntries, Agrees, renumbered, numbered_back, GivesNothing}
 
 -- An entry holds an arc, which is then alone.
@@ -52,8 +52,8 @@ holds_or_leaves (Some i) xs = elim (cases_lt i (length xs)) [
 
 -- the one arc of a list of one has number 0
 nth_only : (a b : Arc) (k : ℕ) → slice_get (a ∷ []) k ≡ Some b → (k ≡ 0) × (a ≡ b)
-nth_only a b zero e = (refl, some_same a b e)
-nth_only a b (suc k) e = absurd (none_is_not_some b e)
+nth_only a b zero e = (refl, cc)
+nth_only a b (suc k) e = cc
 
 module _ (g : Game) (entries : List (Option ℕ)) where
   abbrev HeldAt : ℕ → Type 0
@@ -129,7 +129,7 @@ module _ (g : Game) (entries : List (Option ℕ)) where
             | inl h ↦
                 let mine = own u h.number there.0 h.entry in
                 let same_number = m.chosen mine ∙ back_held u h in
-                let same_arc = some_same h.arc m.arc (sym h.is_arc ∙ ap (λ k. slice_get (g.arcs u) k) (sym same_number) ∙ there.1) in
+                let same_arc = same_Some h.arc m.arc (sym h.is_arc ∙ ap (λ k. slice_get (g.arcs u) k) (sym same_number) ∙ there.1) in
                 record {
                   number = 0;
                   arc = m.arc;

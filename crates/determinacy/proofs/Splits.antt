@@ -1,6 +1,6 @@
 -- A split of a subgame between the players, built from splits of smaller ones.
 use Rattle.std.proofs.Common.{◌≡◌, ℕ, suc, ◌%◌, ◌<◌, Bool, true, false, ◌&&◌, ◌||◌, eqb, ◌⊎◌, List, ◌∷◌, sym, ap, ◌∙◌, subst, inl, inr, arith}
-use Rattle.std.proofs.lemmas.Bool.{cases_Bool, cases_eq, both_ways, eqb-true, eqb-false, and_parts, and_from, or_cases, or_parts, or_left, or_right, or_from}
+use Rattle.std.proofs.lemmas.Bool.{cases_Bool, cases_eq, both_ways, eqb-true, eqb-false, and_parts, and_from, or_cases, or_left, or_right, or_from}
 use Rattle.game.specs.declared.Player.{Player}
 use Rattle.game.specs.Game.{Game, rival, parity}
 use Rattle.game.specs.Plans.{Walk, highest}
@@ -113,29 +113,8 @@ module _ (g : Game) (set : ℕ → Bool) (bound : ℕ) (split : Split g set boun
   unfolding won
   won_from a b = and_from (set v) (same (split.owner v) player) a (same_from (split.owner v) player b)
 
-pub union : (ℕ → Bool) → (ℕ → Bool) → ℕ → Bool
+abbrev pub union : (ℕ → Bool) → (ℕ → Bool) → ℕ → Bool
 union one two v = one v || two v
-
-module _ (one two : ℕ → Bool) (v : ℕ) where
-  pub union_cases : union one two v ≡ true → (one v ≡ true) ⊎ (two v ≡ true)
-  unfolding union
-  union_cases e = or_cases (one v) (two v) e
-
-  pub union_left : one v ≡ true → union one two v ≡ true
-  unfolding union
-  union_left e = or_left (one v) (two v) e
-
-  pub union_right : two v ≡ true → union one two v ≡ true
-  unfolding union
-  union_right e = or_right (one v) (two v) e
-
-  pub union_parts : union one two v ≡ false → (one v ≡ false) × (two v ≡ false)
-  unfolding union
-  union_parts e = or_parts (one v) (two v) e
-
-  pub union_none : one v ≡ false → two v ≡ false → union one two v ≡ false
-  unfolding union
-  union_none a b = or_from (one v) (two v) a b
 
 -- The rival wins some of the rest (home): the rival wins its attractor (gone) too, and what remains is split again.
 module _ (g : Game) (set : ℕ → Bool) (e : ℕ) (i : Player) (near : Attractor g set (suc e) i (tops g e)) (rest : Split g (minus set near.into) e) where
@@ -179,15 +158,15 @@ module _ (g : Game) (set : ℕ → Bool) (e : ℕ) (i : Player) (near : Attracto
 
     gone_parts : (v : ℕ) → gone v ≡ false → (home v ≡ false) × (back.into v ≡ false)
     unfolding gone
-    gone_parts v out = union_parts home back.into v out
+    gone_parts v out = grind arith
 
     pub gone_from_home : (v : ℕ) → home v ≡ true → gone v ≡ true
     unfolding gone
-    gone_from_home v here = union_left home back.into v here
+    gone_from_home v here = grind arith
 
     pub gone_inside : (v : ℕ) → gone v ≡ true → set v ≡ true
     unfolding gone home
-    gone_inside v out = elim (union_cases home back.into v out) [
+    gone_inside v out = elim (or_cases (home v) (back.into v) out) [
       | inl here ↦ (minus_parts set near.into v (won_parts g (minus set near.into) e rest (rival i) v here).0).0
       | inr coming ↦ back.inside v coming
     ]
@@ -195,10 +174,7 @@ module _ (g : Game) (set : ℕ → Bool) (e : ℕ) (i : Player) (near : Attracto
     -- at home, on the way home, or neither
     cases_gone : (v : ℕ) → gone v ≡ true → (home v ≡ true) ⊎ ((home v ≡ false) × (back.into v ≡ true))
     unfolding gone
-    cases_gone v out = elim (cases_Bool (home v)) [
-      | inl here ↦ inl here
-      | inr away ↦ elim (union_cases home back.into v out) [ inl here ↦ inl here | inr coming ↦ inr (away, coming) ]
-    ]
+    cases_gone v out = grind arith
 
     -- one step from the way home
     comes : (u k : ℕ) → Live g set (suc e) u k → back.into u ≡ true → (g.mover u ≡ rival i → k ≡ back.choice u) → (home (to g u k) ≡ true) ⊎ ((back.into (to g u k) ≡ true) × (back.rank (to g u k) < back.rank u))
@@ -226,7 +202,7 @@ module _ (g : Game) (set : ℕ → Bool) (e : ℕ) (i : Player) (near : Attracto
     }
       where
         kept : (v k : ℕ) → Live g set (suc e) v k → gone v ≡ false → (home (to g v k) ≡ false) × (back.into (to g v k) ≡ false) → Live g (minus set gone) (suc e) v k
-        kept v k live out far = live_narrower g set gone (suc e) (suc e) v k live out (union_none home back.into (to g v k) far.0 far.1) live.low
+        kept v k live out far = live_narrower g set gone (suc e) (suc e) v k live out (or_from (home (to g v k)) (back.into (to g v k)) far.0 far.1) live.low
 
     module _ (last : Split g (minus set gone) (suc e)) where
       two_owner : ℕ → Player
@@ -293,10 +269,10 @@ module _ (g : Game) (set : ℕ → Bool) (e : ℕ) (i : Player) (near : Attracto
       gone_kept : (u k : ℕ) → TheirGoes u k → gone (to g u k) ≡ true
       unfolding gone
       gone_kept u k go = elim (cases_Bool (home u)) [
-        | inl here ↦ union_left home back.into (to g u k) (stays_home u k go here)
+        | inl here ↦ or_left (home (to g u k)) (back.into (to g u k)) (stays_home u k go here)
         | inr away ↦ elim (nears_home u k go away) [
-          | inl here ↦ union_left home back.into (to g u k) here
-          | inr coming ↦ union_right home back.into (to g u k) coming.0
+          | inl here ↦ or_left (home (to g u k)) (back.into (to g u k)) here
+          | inr coming ↦ or_right (home (to g u k)) (back.into (to g u k)) coming.0
         ]
       ]
 
@@ -317,7 +293,7 @@ module _ (g : Game) (set : ℕ → Bool) (e : ℕ) (i : Player) (near : Attracto
         | inr theirs ↦ theirs
         | inl mine ↦ elim (cases_player (g.mover u) (rival i)) [
           | inl m ↦ let far = (back.rests u go.live.from_inside (gone_parts u out).1).own m k go.live in
-              absurd (both_ways (gone (to g u k)) (union_none home back.into (to g u k) far.0 far.1) taken)
+              absurd (both_ways (gone (to g u k)) (or_from (home (to g u k)) (back.into (to g u k)) far.0 far.1) taken)
           | inr m ↦ absurd (stayed mine (m ∙ rival_rival i))
         ]
       ]

@@ -1,11 +1,11 @@
 -- Subgames: a set of positions and a bound of the priorities, such that each position keeps an arc.
-use Rattle.std.proofs.Common.{◌≡◌, ℕ, ◌<◌, ◌≤◌, Bool, true, false, cond, not, ◌&&◌, ◌⊎◌, length, get_or, Some, sym, ◌∙◌, inl, inr, arith}
-use Rattle.std.proofs.lemmas.Bool.{cases_Bool, cases_lt, both_ways, and_parts, and_from, not-true, not_from_false, cond-true, cond-false}
-use Rattle.std.proofs.lemmas.Option.{slice_get-get_or, slice_get_past}
+use Rattle.std.proofs.Common.{◌≡◌, ℕ, ◌<◌, ◌≤◌, Bool, true, false, cond, not, ◌&&◌, ◌⊎◌, length, get_or, Some, inl, inr, arith}
+use Rattle.std.proofs.lemmas.Bool.{cond-true, cond-false}
+use Rattle.std.proofs.lemmas.Option.{slice_get-get_or, slice_get_within, get_or_from_slice_get}
 use Rattle.toolkit.proofs.Search.{seek}
 use Rattle.game.specs.declared.Arc.{Arc}
 use Rattle.game.specs.Game.{Game, arc_at}
-use Rattle.game.proofs.Arcs.{arc_there, arc_from, some_same, none_is_not_some}
+use Rattle.game.proofs.Arcs.{arc_there, arc_from}
 
 -- the arc of that number; past the arcs its value has no meaning
 abbrev pub arc : Game → ℕ → ℕ → Arc
@@ -22,12 +22,7 @@ pub arc_known : (g : Game) (v k : ℕ) → v < g.size → k < length (g.arcs v) 
 arc_known g v k h l = arc_from g v k (arc g v k) h (slice_get-get_or (g.arcs v) k (record { target = 0; priority = 0 }) l)
 
 pub arc_is : (g : Game) (v k : ℕ) (a : Arc) → arc_at g v k ≡ Some a → (k < length (g.arcs v)) × (arc g v k ≡ a)
-arc_is g v k a e =
-    let there = (arc_there g v k a e).1 in
-    elim (cases_lt k (length (g.arcs v))) [
-      | inl l ↦ (l, some_same (arc g v k) a (sym (slice_get-get_or (g.arcs v) k (record { target = 0; priority = 0 }) l) ∙ there))
-      | inr past ↦ absurd (none_is_not_some a (sym (slice_get_past (g.arcs v) k past) ∙ there))
-    ]
+arc_is g v k a e = let there = (arc_there g v k a e).1 in (slice_get_within (g.arcs v) k a there, get_or_from_slice_get (g.arcs v) k a _ there)
 
 -- an arc between positions of the set, of a priority below the bound
 pub record Live (g : Game) (set : ℕ → Bool) (bound v k : ℕ) : Type 0 where
@@ -42,19 +37,7 @@ pub record Subgame (g : Game) (set : ℕ → Bool) (bound : ℕ) : Type 0 where
 
 module _ (g : Game) (set : ℕ → Bool) (bound : ℕ) (v : ℕ) where
   live_or_not : (k : ℕ) → Live g set bound v k ⊎ (Live g set bound v k → ⊥)
-  live_or_not k = elim (cases_Bool (set v)) [
-    | inr out ↦ inr (λ l. both_ways (set v) out l.from_inside)
-    | inl from_inside ↦ elim (cases_Bool (set (to g v k))) [
-      | inr out ↦ inr (λ l. both_ways (set (to g v k)) out l.to_inside)
-      | inl to_inside ↦ elim (cases_lt k (length (g.arcs v))) [
-        | inr past ↦ inr (λ l. let h = l.is_arc in omega arith)
-        | inl is_arc ↦ elim (cases_lt (priority g v k) bound) [
-          | inr high ↦ inr (λ l. let h = l.low in omega arith)
-          | inl low ↦ inl (record { from_inside = from_inside; is_arc = is_arc; to_inside = to_inside; low = low })
-        ]
-      ]
-    ]
-  ]
+  live_or_not k = grind arith
 
   -- a live arc of one sort, or all of them are of the other
   pub seek_live : {P Q : ℕ → Type 0} → ((k : ℕ) → P k ⊎ Q k) → ((k : ℕ) × Live g set bound v k × P k) ⊎ ((k : ℕ) → Live g set bound v k → Q k)
@@ -77,11 +60,11 @@ minus all some v = all v && not (some v)
 module _ (all some : ℕ → Bool) (v : ℕ) where
   pub minus_parts : minus all some v ≡ true → (all v ≡ true) × (some v ≡ false)
   unfolding minus
-  minus_parts e = let parts = and_parts (all v) (not (some v)) e in (parts.0, not-true (some v) parts.1)
+  minus_parts e = grind arith
 
   pub minus_from : all v ≡ true → some v ≡ false → minus all some v ≡ true
   unfolding minus
-  minus_from a b = and_from (all v) (not (some v)) a (not_from_false (some v) b)
+  minus_from a b = grind arith
 
 -- what is live in a smaller subgame is live in the greater
 pub live_wider : (g : Game) (set less : ℕ → Bool) (bound lower v k : ℕ) → lower ≤ bound → Live g (minus set less) lower v k → Live g set bound v k

@@ -1,84 +1,59 @@
 -- The layers' games keep the laws, and what each of their arcs is below.
-use Rattle.std.proofs.Common.{◌≡◌, ℕ, zero, suc, ◌+◌, ◌<◌, ◌≤◌, Bool, true, false, cond, ltb, ◌⊎◌, List, [], ◌∷◌, map, length, Some, None, Option, sym, refl, ap, ◌∙◌, inl, inr, arith}
-use lib.ListN.{length-map}
+use Rattle.std.proofs.Common.{◌≡◌, ℕ, zero, suc, ◌+◌, ◌<◌, ◌≤◌, ◌⊎◌, List, [], ◌∷◌, length, Some, None, Option, sym, refl, ap, ◌∙◌, inl, inr, arith}
+use Rattle.std.proofs.lemmas.List.{length-map}
 use Rattle.std.specs.Option.{option_map}
 use Rattle.std.specs.List.{slice_get}
-use Rattle.std.proofs.lemmas.Bool.{cases_lt, cond-true, cond-false, lt-ltb, le-ltb}
-use Rattle.std.proofs.lemmas.Option.{slice_get-get_or, slice_get_past}
+use Rattle.std.proofs.lemmas.Bool.Decides.{nat_tests}
+use Rattle.std.proofs.lemmas.Option.{slice_get-get_or, slice_get-map, slice_get_past, none-some, same_Some}
 use Rattle.game.specs.declared.Arc.{Arc}
 use Rattle.game.specs.Game.{Game, Lawful, arc_count_at, arc_at}
 use Rattle.game.specs.Layers.{raised, swapped, alone, restricted, entry_at, held}
-use Rattle.game.proofs.Arcs.{arc_there, arc_from, none_is_not_some, some_same}
-
-pub nth_map : {A B : Type 0} (f : A → B) (xs : List A) (i : ℕ) → slice_get (map f xs) i ≡ option_map f (slice_get xs i)
-nth_map f [] i = refl
-nth_map f (x ∷ xs) zero = refl
-nth_map f (x ∷ xs) (suc i) = nth_map f xs i
+use Rattle.game.proofs.Arcs.{arc_there, arc_from}
 
 pub mapped_some : {A B : Type 0} (f : A → B) (o : Option A) (y : B) → option_map f o ≡ Some y → (x : A) × (o ≡ Some x) × (y ≡ f x)
-mapped_some f None y e = absurd (none_is_not_some y e)
-mapped_some f (Some x) y e = (x, refl, sym (some_same (f x) y e))
+mapped_some f None y e = absurd (none-some y e)
+mapped_some f (Some x) y e = (x, refl, sym (same_Some (f x) y e))
 
 module _ (g : Game) where
   -- a swapped game that has positions has those of the game below
   pub swapped_size : (v : ℕ) → v < (swapped g).size → (g.top < 250) × (v < g.size)
-  swapped_size v h = elim (cases_lt g.top 250) [
-    | inl l ↦ (l, rw (cond-true (ltb g.top 250) g.size 0 (lt-ltb g.top 250 l)) at h)
-    | inr l ↦ let k : v < 0 = rw (cond-false (ltb g.top 250) g.size 0 (le-ltb g.top 250 l)) at h in absurd (omega arith)
-  ]
+  swapped_size v h = grind (arith, nat_tests)
 
   pub swapped_top : g.top < 250 → (swapped g).top ≡ g.top + 1
-  swapped_top l = cond-true (ltb g.top 250) (g.top + 1) 0 (lt-ltb g.top 250 l)
+  swapped_top l = grind (arith, nat_tests)
 
   -- each arc of the swapped game is a raised arc of the game below
   pub swapped_arc : (v i : ℕ) (a : Arc) → arc_at (swapped g) v i ≡ Some a → (b : Arc) × (arc_at g v i ≡ Some b) × (a ≡ raised b)
   swapped_arc v i a e =
       let there = arc_there (swapped g) v i a e in
-      let below = mapped_some raised (slice_get (g.arcs v) i) a (sym (nth_map raised (g.arcs v) i) ∙ there.1) in
+      let below = mapped_some raised (slice_get (g.arcs v) i) a (sym (slice_get-map raised (g.arcs v) i) ∙ there.1) in
       (below.0, arc_from g v i below.0 (swapped_size v there.0).1 below.1, below.2)
 
   -- the replies of a swapped game, by those of the game below
   pub swapped_count_reply : g.top < 250 → (v : ℕ) → arc_count_at (swapped g) v ≡ arc_count_at g v
-  swapped_count_reply l v = rw (cond-true (ltb g.top 250) g.size 0 (lt-ltb g.top 250 l), length-map)
+  swapped_count_reply l v = grind (arith, nat_tests, length-map {A = Arc} {B = Arc})
 
   pub swapped_arc_reply : g.top < 250 → (v i : ℕ) → arc_at (swapped g) v i ≡ option_map raised (arc_at g v i)
-  swapped_arc_reply l v i = rw (cond-true (ltb g.top 250) g.size 0 (lt-ltb g.top 250 l), nth_map) (sym (mapped_cond (ltb v g.size) (slice_get (g.arcs v) i)))
-    where
-      mapped_cond : (b : Bool) (o : Option Arc) → option_map raised (cond b o None) ≡ cond b (option_map raised o) None
-      mapped_cond true o = refl
-      mapped_cond false o = refl
-
-  swapped_low_top : g.top ≤ 250 → (swapped g).top ≤ 250
-  swapped_low_top h = elim (cases_lt g.top 250) [
-    | inl l ↦ rw (cond-true (ltb g.top 250) (g.top + 1) 0 (lt-ltb g.top 250 l)) (omega arith)
-    | inr l ↦ rw (cond-false (ltb g.top 250) (g.top + 1) 0 (le-ltb g.top 250 l)) (omega arith)
-  ]
-
-  swapped_few : g.size ≤ 200000 → (swapped g).size ≤ 200000
-  swapped_few h = elim (cases_lt g.top 250) [
-    | inl l ↦ rw (cond-true (ltb g.top 250) g.size 0 (lt-ltb g.top 250 l)) h
-    | inr l ↦ rw (cond-false (ltb g.top 250) g.size 0 (le-ltb g.top 250 l)) (omega arith)
-  ]
+  swapped_arc_reply l v i = grind (arith, nat_tests, slice_get-map raised (g.arcs v) i)
 
   swapped_inside : Lawful g → (v i : ℕ) (a : Arc) → arc_at (swapped g) v i ≡ Some a → a.target < (swapped g).size
   swapped_inside laws v i a e =
-      let there = arc_there (swapped g) v i a e in
-      let fits = swapped_size v there.0 in
+      let fits = swapped_size v (arc_there (swapped g) v i a e).0 in
       let (b, below, same) = swapped_arc v i a e in
-      rw (cond-true (ltb g.top 250) g.size 0 (lt-ltb g.top 250 fits.0), same) (laws.target_inside v i b below)
+      let inside = laws.target_inside v i b below in
+      rw same (grind (arith, nat_tests))
 
   swapped_low : Lawful g → (v i : ℕ) (a : Arc) → arc_at (swapped g) v i ≡ Some a → a.priority ≤ (swapped g).top
   swapped_low laws v i a e =
-      let there = arc_there (swapped g) v i a e in
-      let fits = swapped_size v there.0 in
+      let fits = swapped_size v (arc_there (swapped g) v i a e).0 in
       let (b, below, same) = swapped_arc v i a e in
       let low = laws.priority_low v i b below in
       rw (swapped_top fits.0, same) (omega arith)
 
   pub swapped_lawful : Lawful g → Lawful (swapped g)
   swapped_lawful laws = record {
-    few_positions = swapped_few laws.few_positions;
-    low_top = swapped_low_top laws.low_top;
+    few_positions = (let few = laws.few_positions in grind (arith, nat_tests));
+    low_top = (let low = laws.low_top in grind (arith, nat_tests));
     some_arc = λ v h. rw length-map (laws.some_arc v (swapped_size v h).1);
     few_arcs = λ v h. rw length-map (laws.few_arcs v (swapped_size v h).1);
     target_inside = swapped_inside laws;
@@ -110,7 +85,7 @@ restricted_arc o xs i a e = elim (restricted_cases o xs) [
   where
     single : {b : Arc} (k : ℕ) → slice_get (b ∷ []) k ≡ Some a → Some b ≡ Some a
     single zero h = h
-    single (suc k) h = absurd (none_is_not_some a h)
+    single (suc k) h = absurd (none-some a h)
 
 module _ (entries : List (Option ℕ)) (g : Game) where
   pub held_arc : (v i : ℕ) (a : Arc) → arc_at (held entries g) v i ≡ Some a → (j : ℕ) × (arc_at g v j ≡ Some a)

@@ -1,7 +1,8 @@
 -- The games with one loop, decided from the definition of winning.
-use Rattle.std.proofs.Common.{◌≡◌, ℕ, zero, suc, ◌%◌, ◌≤◌, max, true, ltb, List, [], ◌∷◌, Some, sym, refl, ap, ◌∙◌, arith, lit<}
+use Rattle.std.proofs.Common.{◌≡◌, ℕ, zero, suc, ◌%◌, ◌≤◌, true, ltb, List, [], ◌∷◌, Some, sym, refl, ap, ◌∙◌, arith, lit<}
 use Rattle.std.proofs.lemmas.Bool.{ltb-true}
 use Rattle.std.specs.List.{slice_get}
+use Rattle.std.proofs.lemmas.Option.{none-some}
 use Rattle.game.specs.declared.Player.{Player}
 use Rattle.game.specs.declared.Player.TheVariants.{Even, Odd}
 use Rattle.game.specs.declared.Arc.{Arc}
@@ -9,14 +10,14 @@ use Rattle.game.specs.Game.{parity}
 use Rattle.game.specs.Plans.{Plan, Follows, Walk, Wins, Winnable, highest}
 use Rattle.game.specs.Plans.Walk.{stay, step}
 use Rattle.game.specs.Loops.{lone_loop, LoneLoopsDecided}
-use Rattle.game.proofs.Arcs.{arc_there, none_is_not_some}
+use Rattle.game.proofs.Arcs.{arc_there}
 
 abbrev loop : ℕ → Arc
 loop p = record { target = 0; priority = p }
 
 only_arc : (p i : ℕ) (a : Arc) → slice_get (loop p ∷ []) i ≡ Some a → (a.target ≡ 0) × (a.priority ≡ p)
 only_arc p zero a e = let f : loop p ≡ a = cc in (sym (ap (λ (x : Arc). x.target) f), sym (ap (λ (x : Arc). x.priority) f))
-only_arc p (suc i) a e = absurd (none_is_not_some a e)
+only_arc p (suc i) a e = absurd (none-some a e)
 
 module _ (p : ℕ) (s : Plan) where
   move_is : (u w q : ℕ) → Follows (lone_loop p) s u w q → (w ≡ 0) × (q ≡ p)
@@ -58,10 +59,7 @@ the_move p s wins claimed = record {
 needs_parity : (p : ℕ) (player : Player) → Winnable (lone_loop p) player 0 → p % 2 ≡ parity player
 needs_parity p player (s, wins, owner, claimed) =
     let e = wins.closed_walks 0 p [] (step (the_move p s wins claimed) stay) in
-    rw (← owner) (ap (λ x. x % 2) (max_zero p) ∙ e)
-  where
-    max_zero : (x : ℕ) → x ≡ max x 0
-    max_zero x = omega arith
+    rw (← owner) (omega arith)
 
 pub lone_loops_decided_lem : LoneLoopsDecided
 lone_loops_decided_lem = (

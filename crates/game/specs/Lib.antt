@@ -1,4 +1,5 @@
 pub mod Game
+pub mod Players
 pub mod Plans
 pub mod Layers
 pub mod Dictionary

@@ -1,9 +1,12 @@
 // The two players and an arc of a game; the game itself, plans and winning are definitions in specs/.
 #![tactic(auto)]
 
-ghost use Rattle.std.specs.Prelude.{◌≡◌};
+ghost use Rattle.std.specs.Prelude.{◌≡◌, Some};
 ghost use Rattle.game.specs.Game.{rival};
 ghost use Rattle.game.specs.Loops.{LoneLoopsDecided};
+ghost use Rattle.game.specs.Players.{Decodes, word_of};
+
+use std::fmt;
 
 // Even wins where the highest priority that keeps returning is even, Odd where it is odd.
 #[derive(Clone, Copy, PartialEq, Eq, Debug)]
@@ -11,6 +14,10 @@ pub enum Player {
     Even,
     Odd,
 }
+
+// A byte that is neither player's.
+#[derive(Clone, Copy, PartialEq, Eq, Debug)]
+pub struct NoPlayer(pub u8);
 
 impl Player {
     pub fn rival(self) -> Player
@@ -23,8 +30,34 @@ impl Player {
     }
 }
 
+// Byte 0 is Even and byte 1 is Odd, in sheets and in plans.
+impl TryFrom<u8> for Player {
+    type Error = NoPlayer;
+
+    ghost try_from_gives = { Decodes };
+
+    fn try_from(byte: u8) -> Result<Player, NoPlayer> {
+        match byte {
+            0 => Ok(Player::Even),
+            1 => Ok(Player::Odd),
+            _ => Err(NoPlayer(byte)),
+        }
+    }
+}
+
+impl fmt::Display for Player {
+    ghost output = { λ player. Some (word_of player) };
+
+    fn fmt<W: fmt::Write>(&self, f: &mut fmt::Formatter<W>) -> fmt::Result {
+        f.write_str(match self {
+            Player::Even => "even",
+            Player::Odd => "odd",
+        })
+    }
+}
+
 // A move that a position offers: where it leads, and its priority.
-#[derive(Clone, Copy, PartialEq, Eq, Debug)]
+#[derive(Clone, Copy, PartialEq, Eq, Debug, Default)]
 pub struct Arc {
     pub target: usize,
     pub priority: u8,

@@ -1,6 +1,8 @@
 -- The due height: bounded, and monotone in the heights.
-use Rattle.std.proofs.Common.{◌≡◌, ℕ, suc, ◌+◌, ◌*◌, ◌<◌, ◌≤◌, List, [], ◌∷◌, map, Some, refl, ap, ◌∙◌, arith}
-use Rattle.std.specs.List.{AllByRecursion as All, slice_get}
+use Rattle.std.proofs.Common.{◌≡◌, ℕ, ◌+◌, ◌*◌, ◌<◌, ◌≤◌, List, [], ◌∷◌, map, length, get_or, refl, ap, ◌∙◌, arith}
+use Rattle.std.specs.List.{AllByRecursion as All}
+use Rattle.std.proofs.lemmas.List.Elements.{All-from_get_or, recursion_from_All}
+use Rattle.std.proofs.lemmas.Option.{slice_get-get_or}
 use Rattle.std.proofs.ByRecursion.{All-weaker}
 use Rattle.game.specs.declared.Player.{Player}
 use Rattle.game.specs.declared.Player.TheVariants.{Even, Odd}
@@ -11,22 +13,23 @@ use Rattle.heights.specs.Climb.{lost, climb}
 use Rattle.heights.specs.Heights.{least, greatest, asked, due_for, due}
 use Rattle.heights.proofs.Climb.{climb_at_most, climb_monotone}
 
-all_from_nth : {P : Arc → Type 0} (arcs : List Arc) → ((i : ℕ) (a : Arc) → slice_get arcs i ≡ Some a → P a) → All P arcs
-all_from_nth [] each = tt
-all_from_nth (a ∷ arcs) each = (each 0 a refl, all_from_nth arcs (λ i b e. each (suc i) b e))
-
 -- the arc leads to a position, by a priority up to the top
-abbrev Inside : Game → Arc → Type 0
+abbrev pub Inside : Game → Arc → Type 0
 Inside g a = (a.target < g.size) × (a.priority ≤ g.top)
 
 -- as does each arc of a lawful game
+pub arc_inside : (g : Game) → Lawful g → (v k : ℕ) (d : Arc) → v < g.size → k < length (g.arcs v) → Inside g (get_or (g.arcs v) k d)
+arc_inside g lawful v k d there inside =
+    let a = get_or (g.arcs v) k d in
+    let at = arc_from g v k a there (slice_get-get_or (g.arcs v) k d inside) in
+    (lawful.target_inside v k a at, lawful.priority_low v k a at)
+
 arcs_inside : (g : Game) → Lawful g → (v : ℕ) → v < g.size → All (Inside g) (g.arcs v)
 arcs_inside g lawful v there =
-    all_from_nth (g.arcs v) (λ i a e.
-    let at = arc_from g v i a there e in
-    (lawful.target_inside v i a at, lawful.priority_low v i a at))
+    let d : Arc = record { target = 0; priority = 0 } in
+    recursion_from_All (Inside g) (g.arcs v) (All-from_get_or (Inside g) (g.arcs v) d (λ i h. arc_inside g lawful v i d there h))
 
-least_at_most : (limit : ℕ) (xs : List ℕ) → least limit xs ≤ limit
+pub least_at_most : (limit : ℕ) (xs : List ℕ) → least limit xs ≤ limit
 least_at_most limit [] = omega arith
 least_at_most limit (x ∷ xs) = omega (arith, least_at_most limit xs)
 

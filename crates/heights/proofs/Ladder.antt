@@ -1,13 +1,15 @@
 -- Climbing a ladder is sound, and the counters are a ladder.
 use Rattle.std.proofs.Common.{◌≡◌, ℕ, ◌+◌, ◌-◌, ◌*◌, ◌/◌, ◌%◌, ◌^◌, ◌<◌, ◌≤◌, true, List, ◌∷◌, sym, ap, ◌∙◌, inl, inr, mul-le-mul_right, div-add-mod', mul-div_cancel, arith, pow-add}
+use Rattle.std.proofs.Math.Nat.{one-le-pow}
+use Rattle.std.proofs.lemmas.Bool.Decides.{nat_tests}
 use native.Mathlib.Nat.{div-div-eq-div-mul}
-use Rattle.std.proofs.lemmas.Bool.{cases_lt, both_ways, leb-true, leb-false, le-leb, lt-leb}
+use Rattle.std.proofs.lemmas.Bool.{cases_lt, both_ways}
 use Rattle.game.specs.Plans.{Walk, highest}
 use Rattle.game.specs.Plans.Walk.{stay, step}
 use Rattle.toolkit.proofs.Walks.{walk_peak, peak_low}
 use Rattle.heights.specs.Climb.{lost, step_of, climb}
 use Rattle.heights.specs.Ladder.{Ladder, LadderLaws, Rung, Reaches, Keeps, counters}
-use Rattle.heights.proofs.Climb.{power_positive, quotient_monotone, climb_below, climb_lost, climb_at_most}
+use Rattle.heights.proofs.Climb.{quotient_monotone, climb_below, climb_lost, climb_at_most}
 
 module _ {Value : Type 0} {limit : ℕ} {l : Ladder Value} (laws : LadderLaws limit l) where
   -- what is at least the top is the top
@@ -70,68 +72,39 @@ module _ {Value : Type 0} {limit : ℕ} {l : Ladder Value} (laws : LadderLaws li
 module _ (n r : ℕ) (some : 1 ≤ n) where
   -- rungs below the top
   not_lost : (x : ℕ) → Rung (counters n r) x → (x ≡ lost n r → ⊥) → x < lost n r
-  not_lost x rung apart = let h = leb-true x (lost n r) rung in omega arith
+  not_lost x rung apart = grind (arith, nat_tests)
 
   climb_quotient : (x p : ℕ) → x < lost n r → climb n r x p / step_of n p ≡ x / step_of n p + p % 2
-  climb_quotient x p h =
-      ap (λ y. y / step_of n p) (climb_below n r x p h) ∙ mul-div_cancel (x / step_of n p + p % 2) (power_positive n (p / 2) some)
+  climb_quotient x p h = grind (arith, climb_below, mul-div_cancel, one-le-pow (p / 2) n)
 
   -- a greater step compares more roughly
   steps_rougher : (p q x y : ℕ) → p ≤ q → x / step_of n p ≤ y / step_of n p → x / step_of n q ≤ y / step_of n q
   steps_rougher p q x y h below =
-      let more = n ^ (q / 2 - p / 2) in
-      let split : p / 2 + (q / 2 - p / 2) ≡ q / 2 = omega arith in
-      let step_is : step_of n q ≡ step_of n p * more = ap (λ k. n ^ k) (sym split) ∙ pow-add n (p / 2) (q / 2 - p / 2) in
-      let a = ap (λ s. x / s) step_is ∙ sym (div-div-eq-div-mul x (step_of n p) more) in
-      let b = ap (λ s. y / s) step_is ∙ sym (div-div-eq-div-mul y (step_of n p) more) in
-      let c = quotient_monotone more (x / step_of n p) (y / step_of n p) (power_positive n (q / 2 - p / 2) some) below in
-      omega arith
+      grind (arith, pow-add n (p / 2) (q / 2 - p / 2), div-div-eq-div-mul, quotient_monotone (n ^ (q / 2 - p / 2)) (x / step_of n p) (y / step_of n p), one-le-pow (q / 2 - p / 2) n)
 
   counters_reach : (x p : ℕ) → x < lost n r → Reaches (counters n r) p x (climb n r x p)
-  counters_reach x p h =
-      let e = climb_quotient x p h in (
-        le-leb (x / step_of n p) (climb n r x p / step_of n p) (omega arith),
-        λ odd. lt-leb (climb n r x p / step_of n p) (x / step_of n p) (omega arith),
-      )
+  counters_reach x p h = let e = climb_quotient x p h in (grind (arith, nat_tests), λ odd. grind (arith, nat_tests))
 
   counters_least : (x y p : ℕ) → x < lost n r → Reaches (counters n r) p x y → climb n r x p ≤ y
-  counters_least x y p h reaches =
-      let q = step_of n p in
-      let at_least_lem = leb-true (x / q) (y / q) reaches.0 in
-      let lifted : x / q + p % 2 ≤ y / q = elim (cases_lt (p % 2) 1) [
-        | inl even ↦ omega arith
-        | inr odd ↦ let more = leb-false (y / q) (x / q) (reaches.1 (omega arith)) in omega arith
-      ] in
-      let times = mul-le-mul_right q lifted in
-      let parts = div-add-mod' y q in
-      let e = climb_below n r x p h in
-      omega arith
+  counters_least x y p h reaches = grind (arith, nat_tests, climb_below, mul-le-mul_right, div-add-mod')
 
   pub counters_laws : LadderLaws (2 * r + 1) (counters n r)
   counters_laws = record {
-    finite = λ x rung. let h = leb-true x (lost n r) rung in omega arith;
-    numbered = λ x y rung_x rung_y h. leb-false y x h;
-    total = λ x y rung_x rung_y. elim (cases_lt x y) [ inl h ↦ inl (le-leb x y (omega arith)) | inr h ↦ inr (le-leb y x h) ];
-    transitive = λ x y z rung_x rung_y rung_z a b. let h = leb-true x y a in let k = leb-true y z b in le-leb x z (omega arith);
-    antisymmetric = λ x y rung_x rung_y a b. let h = leb-true x y a in let k = leb-true y x b in omega arith;
-    top_rung = le-leb (lost n r) (lost n r) (omega arith);
+    finite = λ x rung. grind (arith, nat_tests);
+    numbered = λ x y rung_x rung_y h. grind (arith, nat_tests);
+    total = λ x y rung_x rung_y. grind (arith, nat_tests);
+    transitive = λ x y z rung_x rung_y rung_z a b. grind (arith, nat_tests);
+    antisymmetric = λ x y rung_x rung_y a b. grind (arith, nat_tests);
+    top_rung = grind (arith, nat_tests);
     below_top = λ x rung. rung;
-    roughly_total = λ p x y low rung_x rung_y. elim (cases_lt (x / step_of n p) (y / step_of n p)) [
-      | inl h ↦ inl (le-leb (x / step_of n p) (y / step_of n p) (omega arith))
-      | inr h ↦ inr (le-leb (y / step_of n p) (x / step_of n p) h)
-    ];
-    roughly_transitive = λ p x y z low rung_x rung_y rung_z a b.
-        let h = leb-true (x / step_of n p) (y / step_of n p) a in
-        let k = leb-true (y / step_of n p) (z / step_of n p) b in
-        le-leb (x / step_of n p) (z / step_of n p) (omega arith);
-    never_reverses = λ p x y low rung_x rung_y h.
-        le-leb (x / step_of n p) (y / step_of n p) (quotient_monotone (step_of n p) x y (power_positive n (p / 2) some) (leb-true x y h));
-    rougher = λ p q x y h low rung_x rung_y below.
-        le-leb (x / step_of n q) (y / step_of n q) (steps_rougher p q x y h (leb-true (x / step_of n p) (y / step_of n p) below));
-    climb_rung = λ x p low rung. le-leb (climb n r x p) (lost n r) (climb_at_most n r p some (omega arith) x);
+    roughly_total = λ p x y low rung_x rung_y. grind (arith, nat_tests);
+    roughly_transitive = λ p x y z low rung_x rung_y rung_z a b. grind (arith, nat_tests);
+    never_reverses = λ p x y low rung_x rung_y h. grind (arith, nat_tests, quotient_monotone (step_of n p) x y, one-le-pow (p / 2) n);
+    rougher = λ p q x y h low rung_x rung_y below. grind (arith, nat_tests, steps_rougher p q x y);
+    climb_rung = λ x p low rung. grind (arith, nat_tests, climb_at_most n r p some (omega arith) x);
     climb_keeps_top = λ p low. climb_lost n r (lost n r) p (omega arith);
     climb_reaches = λ x p low rung apart below. counters_reach x p (not_lost x rung apart);
-    climb_least = λ x y p low rung_x rung_y apart reaches. le-leb (climb n r x p) y (counters_least x y p (not_lost x rung_x apart) reaches);
+    climb_least = λ x y p low rung_x rung_y apart reaches. grind (arith, nat_tests, counters_least x y p (not_lost x rung_x apart) reaches);
   }
 
   -- So moves along which the climb from the height of the target is at most a height that is not lost are sound.
@@ -139,14 +112,11 @@ module _ (n r : ℕ) (some : 1 ≤ n) where
   counters_sound h moves =
       closed_walks_even counters_laws h (λ v w p m.
       let kept = moves v w p m in
-      let low = kept.0 in
-      let climbed = kept.1 in
       let below = kept.2 in
-      let inside : h w < lost n r = elim (cases_lt (h w) (lost n r)) [ inl l ↦ l | inr l ↦ let e = climb_lost n r (h w) p l in absurd (omega arith) ] in
       record {
-        low = low;
-        rung_from = le-leb (h v) (lost n r) (omega arith);
-        rung_to = le-leb (h w) (lost n r) (omega arith);
+        low = kept.0;
+        rung_from = grind (arith, nat_tests);
+        rung_to = grind (arith, nat_tests, climb_lost n r (h w) p);
         not_top = λ e. omega arith;
-        climbed = le-leb (climb n r (h w) p) (h v) climbed;
+        climbed = grind (arith, nat_tests);
       })

@@ -1,8 +1,9 @@
 -- What sweeps do to the heights: they rise, stay at most those of every closed assignment, and come to an end.
-use Rattle.std.proofs.Common.{◌≡◌, ℕ, zero, suc, ◌+◌, ◌-◌, ◌*◌, ◌<◌, ◌≤◌, true, false, ◌⊎◌, List, length, get_or, drop, set, replicate, sym, refl, ap, ◌∙◌, inl, inr, arith, length-append, length-drop, length-set}
+use Rattle.std.proofs.Common.{◌≡◌, ℕ, zero, suc, ◌+◌, ◌*◌, ◌<◌, ◌≤◌, false, List, length, drop, refl, ap, ◌∙◌, inl, inr, arith, length-append, length-drop, length-set}
 use lib.ListN.{length-replicate}
-use Rattle.std.proofs.lemmas.List.{get_or-set_same, get_or-set_other, drop-set-lt, get_or_append_left, get_or-replicate, drop-drop, drop_at}
-use Rattle.std.proofs.lemmas.Bool.{cases_lt, cases_eq, cases_Bool, cond-true, cond-false, ltb-true, ltb-false}
+use Rattle.std.proofs.lemmas.List.{get_or-set_same, get_or-set_other, drop-set-lt, get_or_append_left, get_or-replicate, drop_at}
+use Rattle.std.proofs.lemmas.Bool.{cases_lt, ltb-false}
+use Rattle.std.proofs.lemmas.Bool.Decides.{nat_tests}
 use Rattle.game.specs.Game.{Game, Lawful}
 use Rattle.toolkit.specs.Finite.{bit, sum}
 use Rattle.toolkit.proofs.Counting.{bit_of_true, bit_of_false, bit_at_most_one, sum_strict, sum_at_most}
@@ -20,119 +21,51 @@ least_unique_lem n r g h k one two v there =
     omega arith
 
 module _ (n r : ℕ) (g : Game) where
-  -- one position
-  pub raised_low : (v : ℕ) (cells : List ℕ) → low n r g v cells ≡ true → raised_at n r g v cells ≡ set cells v (due n r g (height_in cells) v)
-  unfolding raised_at
-  raised_low v cells e = cond-true (low n r g v cells) (set cells v (due n r g (height_in cells) v)) cells e
-
-  pub raised_not_low : (v : ℕ) (cells : List ℕ) → low n r g v cells ≡ false → raised_at n r g v cells ≡ cells
-  unfolding raised_at
-  raised_not_low v cells e = cond-false (low n r g v cells) (set cells v (due n r g (height_in cells) v)) cells e
-
-  pub low_below : (v : ℕ) (cells : List ℕ) → low n r g v cells ≡ true → height_in cells v < due n r g (height_in cells) v
-  unfolding low
-  low_below v cells e = ltb-true (height_in cells v) (due n r g (height_in cells) v) e
-
-  pub not_low_above : (v : ℕ) (cells : List ℕ) → low n r g v cells ≡ false → due n r g (height_in cells) v ≤ height_in cells v
-  unfolding low
-  not_low_above v cells e = ltb-false (height_in cells v) (due n r g (height_in cells) v) e
-
-  -- what a raise leaves at each place
-  raised_height : (v : ℕ) (cells : List ℕ) → v < length cells → (u : ℕ) → ((u ≡ v) × (low n r g v cells ≡ true) × (height_in (raised_at n r g v cells) u ≡ due n r g (height_in cells) v)) ⊎ (height_in (raised_at n r g v cells) u ≡ height_in cells u)
-  raised_height v cells fits u = elim (cases_Bool (low n r g v cells)) [
-    | inl e ↦ elim (cases_eq u v) [
-      | inl same ↦ inl (same, e, ap (λ xs. height_in xs u) (raised_low v cells e) ∙ ap (λ i. get_or (set cells v (due n r g (height_in cells) v)) i 0) same ∙ get_or-set_same cells v (due n r g (height_in cells) v) 0 fits)
-      | inr apart ↦ inr (ap (λ xs. height_in xs u) (raised_low v cells e) ∙ get_or-set_other cells v u (due n r g (height_in cells) v) 0 apart)
-    ]
-    | inr e ↦ inr (ap (λ xs. height_in xs u) (raised_not_low v cells e))
-  ]
-
+  -- one position: what a raise leaves
   raised_length : (v : ℕ) (cells : List ℕ) → length (raised_at n r g v cells) ≡ length cells
-  raised_length v cells = elim (cases_Bool (low n r g v cells)) [
-    | inl e ↦ ap length (raised_low v cells e) ∙ length-set cells v (due n r g (height_in cells) v)
-    | inr e ↦ ap length (raised_not_low v cells e)
-  ]
+  unfolding raised_at
+  raised_length v cells = grind (arith, nat_tests, length-set)
 
   raised_drop : (k v : ℕ) (cells : List ℕ) → v < k → drop k (raised_at n r g v cells) ≡ drop k cells
-  raised_drop k v cells h = elim (cases_Bool (low n r g v cells)) [
-    | inl e ↦ ap (drop k) (raised_low v cells e) ∙ drop-set-lt k cells v (due n r g (height_in cells) v) h
-    | inr e ↦ ap (drop k) (raised_not_low v cells e)
-  ]
+  unfolding raised_at
+  raised_drop k v cells h = grind (arith, nat_tests, drop-set-lt)
 
   raised_rises : (v : ℕ) (cells : List ℕ) → v < length cells → (u : ℕ) → height_in cells u ≤ height_in (raised_at n r g v cells) u
-  raised_rises v cells fits u = elim (raised_height v cells fits u) [
-    | inl (same, e, is) ↦ let b : height_in cells u < due n r g (height_in cells) v = rw same (low_below v cells e) in omega arith
-    | inr is ↦ omega arith
-  ]
+  unfolding raised_at low
+  raised_rises v cells fits u = grind (arith, nat_tests, get_or-set_same, get_or-set_other)
 
   -- each raise adds to the sum of the heights
   raised_adds : (size v : ℕ) (cells : List ℕ) → v < size → size ≤ length cells → sum size (height_in cells) + bit (low n r g v cells) ≤ sum size (height_in (raised_at n r g v cells))
-  raised_adds size v cells inside fits = elim (cases_Bool (low n r g v cells)) [
-    | inl e ↦
-        let one = bit_of_true (low n r g v cells) e in
-        let here : height_in (raised_at n r g v cells) v ≡ due n r g (height_in cells) v = ap (λ xs. height_in xs v) (raised_low v cells e) ∙ get_or-set_same cells v (due n r g (height_in cells) v) 0 (omega arith) in
-        let below = low_below v cells e in
-        let more = sum_strict size (height_in cells) (height_in (raised_at n r g v cells)) v (λ u h. raised_rises v cells (omega arith) u) inside (omega arith) in
-        omega arith
-    | inr e ↦
-        let none = bit_of_false (low n r g v cells) e in
-        let same = ap (λ xs. sum size (height_in xs)) (raised_not_low v cells e) in
-        omega arith
-  ]
+  unfolding raised_at low
+  raised_adds size v cells inside fits =
+      grind (arith, nat_tests, bit_of_true, bit_of_false, get_or-set_same, sum_strict size (height_in cells) (height_in (raised_at n r g v cells)) v (λ u h. raised_rises v cells (omega arith) u))
 
   -- a sweep, one position at a time
-  pub swept_none : (cells : List ℕ) → swept_to n r g 0 cells ≡ cells
-  unfolding swept_to
-  swept_none cells = refl
-
-  pub swept_more : (v : ℕ) (cells : List ℕ) → swept_to n r g (suc v) cells ≡ raised_at n r g v (swept_to n r g v cells)
-  unfolding swept_to
-  swept_more v cells = refl
-
-  pub raises_none : (cells : List ℕ) → raises_to n r g 0 cells ≡ 0
-  unfolding raises_to
-  raises_none cells = refl
-
-  pub raises_more : (v : ℕ) (cells : List ℕ) → raises_to n r g (suc v) cells ≡ raises_to n r g v cells + bit (low n r g v (swept_to n r g v cells))
-  unfolding raises_to
-  raises_more v cells = refl
-
   pub raises_at_most : (v : ℕ) (cells : List ℕ) → raises_to n r g v cells ≤ v
-  raises_at_most zero cells = omega (arith, raises_none cells)
-  raises_at_most (suc v) cells = omega (arith, raises_more v cells, raises_at_most v cells, bit_at_most_one (low n r g v (swept_to n r g v cells)))
+  unfolding raises_to
+  raises_at_most zero cells = omega arith
+  raises_at_most (suc v) cells = omega (arith, raises_at_most v cells, bit_at_most_one (low n r g v (swept_to n r g v cells)))
 
   pub swept_length : (v : ℕ) (cells : List ℕ) → length (swept_to n r g v cells) ≡ length cells
-  swept_length zero cells = ap length (swept_none cells)
-  swept_length (suc v) cells = ap length (swept_more v cells) ∙ raised_length v (swept_to n r g v cells) ∙ swept_length v cells
+  unfolding swept_to
+  swept_length zero cells = refl
+  swept_length (suc v) cells = raised_length v (swept_to n r g v cells) ∙ swept_length v cells
 
   swept_drop : (k v : ℕ) (cells : List ℕ) → v ≤ k → drop k (swept_to n r g v cells) ≡ drop k cells
-  swept_drop k zero cells h = ap (drop k) (swept_none cells)
-  swept_drop k (suc v) cells h = ap (drop k) (swept_more v cells) ∙ raised_drop k v (swept_to n r g v cells) (omega arith) ∙ swept_drop k v cells (omega arith)
+  unfolding swept_to
+  swept_drop k zero cells h = refl
+  swept_drop k (suc v) cells h = raised_drop k v (swept_to n r g v cells) (omega arith) ∙ swept_drop k v cells (omega arith)
 
   pub swept_adds : (size v : ℕ) (cells : List ℕ) → v ≤ size → size ≤ length cells → sum size (height_in cells) + raises_to n r g v cells ≤ sum size (height_in (swept_to n r g v cells))
-  swept_adds size zero cells h fits = omega (arith, raises_none cells, ap (λ xs. sum size (height_in xs)) (swept_none cells))
-  swept_adds size (suc v) cells h fits =
-      let before = swept_adds size v cells (omega arith) fits in
-      let long = swept_length v cells in
-      let here = raised_adds size v (swept_to n r g v cells) (omega arith) (omega arith) in
-      let a = raises_more v cells in
-      let b = ap (λ xs. sum size (height_in xs)) (swept_more v cells) in
-      omega arith
+  unfolding swept_to raises_to
+  swept_adds size zero cells h fits = omega arith
+  swept_adds size (suc v) cells h fits = grind (arith, swept_adds size v cells, swept_length, raised_adds size v (swept_to n r g v cells))
 
   -- a sweep that raises nothing leaves the cells as they are, and no position low
   pub none_low : (v : ℕ) (cells : List ℕ) → raises_to n r g v cells ≡ 0 → (swept_to n r g v cells ≡ cells) × ((u : ℕ) → u < v → low n r g u cells ≡ false)
-  none_low zero cells e = (swept_none cells, λ u h. absurd (omega arith))
-  none_low (suc v) cells e =
-      let more = raises_more v cells in
-      let before = none_low v cells (omega arith) in
-      let here : low n r g v (swept_to n r g v cells) ≡ false = elim (cases_Bool (low n r g v (swept_to n r g v cells))) [
-        | inl yes' ↦ let one = bit_of_true (low n r g v (swept_to n r g v cells)) yes' in absurd (omega arith)
-        | inr no' ↦ no'
-      ] in
-      let here_now : low n r g v cells ≡ false = ap (low n r g v) (sym before.0) ∙ here in (
-        swept_more v cells ∙ raised_not_low v (swept_to n r g v cells) here ∙ before.0,
-        λ u h. elim (cases_eq u v) [ inl same ↦ rw same here_now | inr apart ↦ before.1 u (omega arith) ],
-      )
+  unfolding swept_to raises_to raised_at
+  none_low zero cells e = (refl, λ u h. absurd (omega arith))
+  none_low (suc v) cells e = let before = none_low v cells (omega arith) in grind (arith, nat_tests, bit_of_true)
 
 pub sweeps_agree_lem : (n r : ℕ) (g : Game) (start last other : List ℕ) (k m : ℕ) → Swept n r g start last k → Swept n r g start other m → (last ≡ other) × (k ≡ m)
 sweeps_agree_lem n r g start last other k m (settled a) (settled b) = (refl, refl)
@@ -148,27 +81,14 @@ Under size k cells = (v : ℕ) → v < size → height_in cells v ≤ k v
 
 module _ (size : ℕ) (cells : List ℕ) where
   pub zeroed_length : size ≤ length cells → length (zeroed size cells) ≡ length cells
-  zeroed_length fits =
-      let a = length-replicate {A = ℕ} size 0 in
-      let b = length-drop size cells in
-      let c = length-append (replicate size 0) (drop size cells) in
-      omega arith
+  zeroed_length fits = grind (arith, length-replicate, length-drop, length-append)
 
   -- the start is under every assignment
   pub zeroed_under : (k : ℕ → ℕ) → Under size k (zeroed size cells)
-  zeroed_under k v there =
-      let long = length-replicate {A = ℕ} size 0 in
-      let e = get_or_append_left (replicate size 0) (drop size cells) 0 v (omega arith) ∙ get_or-replicate size v 0 0 there in
-      omega arith
+  zeroed_under k v there = grind (arith, length-replicate, get_or_append_left, get_or-replicate)
 
   zeroed_drop : drop size (zeroed size cells) ≡ drop size cells
-  zeroed_drop = drop_at (replicate size 0) (drop size cells) size (length-replicate size 0)
-
-  -- and so are the cells further back
-  pub zeroed_behind : (m : ℕ) → size ≤ m → drop m (zeroed size cells) ≡ drop m cells
-  zeroed_behind m h =
-      let split : size + (m - size) ≡ m = omega arith in
-      rw (← split) (sym (drop-drop (m - size) size (zeroed size cells)) ∙ ap (drop (m - size)) zeroed_drop ∙ drop-drop (m - size) size cells)
+  zeroed_drop = grind (arith, drop_at, length-replicate)
 
 module _ (n r : ℕ) (g : Game) (some : 1 ≤ n) (lawful : Lawful g) (low_top : g.top ≤ 2 * r + 1) where
   all_lost_closed : Closed n r g (λ v. lost n r)
@@ -179,28 +99,22 @@ module _ (n r : ℕ) (g : Game) (some : 1 ≤ n) (lawful : Lawful g) (low_top : 
 
   -- raises do not pass a closed assignment
   raised_under : (k : ℕ → ℕ) → Closed n r g k → (v : ℕ) (cells : List ℕ) → v < g.size → g.size ≤ length cells → Under g.size k cells → Under g.size k (raised_at n r g v cells)
-  raised_under k closed v cells there fits under u inside = elim (raised_height n r g v cells (omega arith) u) [
-    | inl (same, e, is) ↦
-        let a = due_monotone n r g some lawful low_top (height_in cells) k under v there in
-        let b = closed.enough v there in
-        let c : due n r g k v ≤ k u = rw same b in
-        omega arith
-    | inr is ↦ let a = under u inside in omega arith
-  ]
+  unfolding raised_at low
+  raised_under k closed v cells there fits under u inside =
+      let a = due_monotone n r g some lawful low_top (height_in cells) k under v there in
+      let b = closed.enough v there in
+      grind (arith, nat_tests, get_or-set_same, get_or-set_other)
 
   swept_under : (k : ℕ → ℕ) → Closed n r g k → (v : ℕ) (cells : List ℕ) → v ≤ g.size → g.size ≤ length cells → Under g.size k cells → Under g.size k (swept_to n r g v cells)
-  swept_under k closed zero cells h fits under = rw (swept_none n r g cells) under
+  unfolding swept_to
+  swept_under k closed zero cells h fits under = under
   swept_under k closed (suc v) cells h fits under =
       let long = swept_length n r g v cells in
-      rw (swept_more n r g v cells) (raised_under k closed v (swept_to n r g v cells) (omega arith) (omega arith) (swept_under k closed v cells (omega arith) fits under))
+      raised_under k closed v (swept_to n r g v cells) (omega arith) (omega arith) (swept_under k closed v cells (omega arith) fits under)
 
   -- no height passes T
   pub swept_bounded : (v : ℕ) (cells : List ℕ) → v ≤ g.size → g.size ≤ length cells → Under g.size (λ u. lost n r) cells → Under g.size (λ u. lost n r) (swept_to n r g v cells)
   swept_bounded = swept_under (λ u. lost n r) all_lost_closed
-
-  run_length : {first last : List ℕ} {m : ℕ} → Swept n r g first last m → length last ≡ length first
-  run_length (settled e) = refl
-  run_length (once_more {cells = cells} e more) = run_length more ∙ swept_length n r g g.size cells
 
   run_drop : {first last : List ℕ} {m : ℕ} → Swept n r g first last m → drop g.size last ≡ drop g.size first
   run_drop (settled e) = refl
@@ -226,9 +140,10 @@ module _ (n r : ℕ) (g : Game) (some : 1 ≤ n) (lawful : Lawful g) (low_top : 
   run_not_low (once_more e more) = run_not_low more
 
   run_closed : {first last : List ℕ} {m : ℕ} → Swept n r g first last m → g.size ≤ length first → Under g.size (λ u. lost n r) first → Closed n r g (height_in last)
+  unfolding low
   run_closed {last = last} run fits under = record {
     bounded = run_under (λ u. lost n r) all_lost_closed run fits under;
-    enough = λ v there. not_low_above n r g v last (run_not_low run v there);
+    enough = λ v there. ltb-false (height_in last v) (due n r g (height_in last) v) (run_not_low run v there);
   }
 
   -- the sum of bounded heights

@@ -1,17 +1,16 @@
 -- How many raises the sweeps from all zeros take. Sweeps see the cells of the positions alone.
-use Rattle.std.proofs.Common.{◌≡◌, ℕ, zero, suc, ◌+◌, ◌*◌, ◌<◌, ◌≤◌, ltb, List, ◌++◌, length, drop, set, replicate, sym, refl, ap, ◌∙◌, subst, inl, inr, arith}
+use Rattle.std.proofs.Common.{◌≡◌, ℕ, zero, suc, ◌+◌, ◌*◌, ◌<◌, ◌≤◌, List, ◌++◌, length, drop, replicate, sym, refl, ap, ◌∙◌, subst, arith}
 use lib.ListN.{length-replicate}
 use Rattle.std.proofs.lemmas.List.{get_or_append_left, set-append_left}
-use Rattle.std.proofs.lemmas.Bool.{cases_Bool}
+use Rattle.std.proofs.lemmas.Bool.Decides.{nat_tests}
 use Rattle.game.specs.Game.{Game, Lawful}
-use Rattle.toolkit.specs.Finite.{bit}
 use Rattle.heights.specs.Climb.{lost}
 use Rattle.heights.specs.Heights.{due}
 use Rattle.heights.specs.Sweeps.{height_in, zeroed, low, raised_at, swept_to, raises_to, Swept, Takes}
 use Rattle.heights.specs.Sweeps.Swept.{settled, once_more}
 use Rattle.heights.specs.Theorems.{SweepsTake}
 use Rattle.heights.proofs.Due.{due_same}
-use Rattle.heights.proofs.Sweeping.{raised_low, raised_not_low, swept_none, swept_more, swept_length, raises_none, raises_more, sweeps_agree_lem, sweeps_end_lem}
+use Rattle.heights.proofs.Sweeping.{swept_length, sweeps_agree_lem, sweeps_end_lem}
 
 -- the cells of the positions, and those behind them
 module _ (n r : ℕ) (g : Game) (lawful : Lawful g) (back : List ℕ) where
@@ -24,37 +23,27 @@ module _ (n r : ℕ) (g : Game) (lawful : Lawful g) (back : List ℕ) where
 
     low_in_front : (v : ℕ) → v < g.size → low n r g v (front ++ back) ≡ low n r g v front
     unfolding low
-    low_in_front v there =
-        ap (λ x. ltb x (due n r g (height_in (front ++ back)) v)) (height_in_front v there) ∙ ap (λ x. ltb (height_in front v) x) (due_in_front v there)
+    low_in_front v there = grind (arith, nat_tests, due_in_front v, height_in_front v)
 
     raised_in_front : (v : ℕ) → v < g.size → raised_at n r g v (front ++ back) ≡ raised_at n r g v front ++ back
-    raised_in_front v there = elim (cases_Bool (low n r g v front)) [
-      | inl e ↦
-          raised_low n r g v (front ++ back) (low_in_front v there ∙ e) ∙
-          ap (set (front ++ back) v) (due_in_front v there) ∙
-          set-append_left front back v (due n r g (height_in front) v) (omega arith) ∙
-          ap (λ xs. xs ++ back) (sym (raised_low n r g v front e))
-      | inr e ↦
-          raised_not_low n r g v (front ++ back) (low_in_front v there ∙ e) ∙ ap (λ xs. xs ++ back) (sym (raised_not_low n r g v front e))
-    ]
+    unfolding low raised_at
+    raised_in_front v there = grind (arith, nat_tests, due_in_front v, height_in_front v, set-append_left)
 
   module _ (front : List ℕ) (whole : length front ≡ g.size) where
     swept_in_front : (v : ℕ) → v ≤ g.size → swept_to n r g v (front ++ back) ≡ swept_to n r g v front ++ back
-    swept_in_front zero h = swept_none n r g (front ++ back) ∙ ap (λ xs. xs ++ back) (sym (swept_none n r g front))
+    unfolding swept_to
+    swept_in_front zero h = refl
     swept_in_front (suc v) h =
-        swept_more n r g v (front ++ back) ∙
-        ap (raised_at n r g v) (swept_in_front v (omega arith)) ∙
-        raised_in_front (swept_to n r g v front) (swept_length n r g v front ∙ whole) v h ∙
-        ap (λ xs. xs ++ back) (sym (swept_more n r g v front))
+        ap (raised_at n r g v) (swept_in_front v (omega arith)) ∙ raised_in_front (swept_to n r g v front) (swept_length n r g v front ∙ whole) v h
 
     raises_in_front : (v : ℕ) → v ≤ g.size → raises_to n r g v (front ++ back) ≡ raises_to n r g v front
-    raises_in_front zero h = raises_none n r g (front ++ back) ∙ sym (raises_none n r g front)
+    unfolding raises_to
+    raises_in_front zero h = refl
     raises_in_front (suc v) h =
-        raises_more n r g v (front ++ back) ∙
-        ap (λ m. m + bit (low n r g v (swept_to n r g v (front ++ back)))) (raises_in_front v (omega arith)) ∙
-        ap (λ xs. raises_to n r g v front + bit (low n r g v xs)) (swept_in_front v (omega arith)) ∙
-        ap (λ b. raises_to n r g v front + bit b) (low_in_front (swept_to n r g v front) (swept_length n r g v front ∙ whole) v h) ∙
-        sym (raises_more n r g v front)
+        let before = raises_in_front v (omega arith) in
+        let cells = swept_in_front v (omega arith) in
+        let here = low_in_front (swept_to n r g v front) (swept_length n r g v front ∙ whole) v h in
+        cc
 
   run_in_front : {cells last : List ℕ} {m : ℕ} → Swept n r g cells last m → (front : List ℕ) → length front ≡ g.size → cells ≡ front ++ back → (end : List ℕ) × Swept n r g front end m
   run_in_front (settled e) front whole is =

@@ -7,9 +7,7 @@ pub fn clear(cells: &mut [u32], used: usize)
     requires { used ≤ length cells.old }
     ensures { cells.new ≡ zeroed used cells.old }
 {
-    for i in 0..used {
-        cells[i] = 0;
-    }
+    cells[..used].fill(0);
 }
 
 // A guard over lent cells: dropped, it clears the first `used` of them.

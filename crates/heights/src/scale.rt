@@ -1,9 +1,10 @@
 // The powers of n, computed once, and the climb by them.
 ghost use Rattle.std.specs.Prelude.{◌≡◌, ℕ, ◌+◌, ◌*◌, ◌^◌, ◌<◌, ◌≤◌, [], slice_index};
-ghost use Rattle.heights.specs.Climb.{lost, step_of, climb};
+ghost use Rattle.heights.specs.Climb.{lost, climb};
 ghost use Rattle.heights.specs.Heights.{due_for};
 
 use game::Player;
+use std::array;
 
 // Heights for n positions and r registers: `limit` is the lost height n^(r+1), and `steps[i]` is n^i.
 #[derive(Clone, Copy)]
@@ -19,15 +20,6 @@ pub struct Scale {
     ghost each: { (i : ℕ) → i < 6 → slice_index steps i ≡ n ^ i },
 }
 
-// n^k, at most 2^24.
-fn power(n: u32, k: usize) -> u32
-    requires low { n ≤ 16 }
-    requires few { k ≤ 6 }
-    ensures { result ≡ n ^ k }
-{
-    n.pow(k as u32)
-}
-
 impl Scale {
     // The powers of n up to n^(r+1).
     pub fn new(n: usize, r: usize) -> Scale
@@ -38,11 +30,8 @@ impl Scale {
         ensures r { result.r ≡ r }
     {
         let base = n as u32;
-        let mut steps = [1; 6];
-        for i in 0..6 {
-            steps[i] = power(base, i);
-        }
-        let limit = power(base, r + 1);
+        let steps = array::from_fn(|i| base.pow(i as u32));
+        let limit = base.pow(r as u32 + 1);
         Scale { n, r, limit, steps }
     }
 
@@ -53,14 +42,6 @@ impl Scale {
         self.limit
     }
 
-    // The step of priority p.
-    fn step(&self, p: u8) -> u32
-        requires { p ≤ 2 * self.now.r + 1 }
-        ensures { result ≡ step_of self.now.n p }
-    {
-        self.steps[p as usize / 2]
-    }
-
     // The climb from height x by priority p.
     pub fn climb(&self, x: u32, p: u8) -> u32
         requires { p ≤ 2 * self.now.r + 1 }
@@ -69,7 +50,7 @@ impl Scale {
         if x >= self.limit {
             return self.limit;
         }
-        let step = self.step(p);
+        let step = self.steps[usize::from(p) / 2];
         let floor = x - x % step;
         if p % 2 == 0 { floor } else { floor + step }
     }

@@ -1,15 +1,14 @@
 // The least closed heights of an arena, in lent cells.
-ghost use Rattle.std.specs.Prelude.{◌≡◌, ℕ, ◌+◌, ◌*◌, ◌<◌, ◌≤◌, length, if◌then◌else◌, nat_lt, slice_set};
-ghost use Rattle.toolkit.specs.Finite.{bit};
+ghost use Rattle.std.specs.Prelude.{◌≡◌, ℕ, ◌+◌, ◌*◌, ◌<◌, ◌≤◌, length};
 ghost use Rattle.heights.specs.Climb.{lost};
-ghost use Rattle.heights.specs.Heights.{asked, due};
-ghost use Rattle.heights.specs.Sweeps.{height_in, Swept};
+ghost use Rattle.heights.specs.Heights.{due};
+ghost use Rattle.heights.specs.Sweeps.{height_in, swept_to, raises_to, Swept};
 ghost use Rattle.heights.specs.Replies.{better, Reply};
 
 use super::cleared::clear;
 use super::scale::Scale;
-use arena::Arena;
-use game::{Arc, Player};
+use arena::{Arcs, Arena};
+use game::Player;
 
 // Of two heights Even takes the lower one, Odd the higher one.
 fn better(mover: Player, x: u32, y: u32) -> u32
@@ -21,72 +20,69 @@ fn better(mover: Player, x: u32, y: u32) -> u32
     }
 }
 
-// What an arc asks of the position that it leaves.
-fn asked(scale: &Scale, cells: &[u32], arc: Arc) -> u32
-    requires inside { arc.target < length cells.now }
-    requires low { arc.priority ≤ 2 * scale.now.r + 1 }
-    ensures { result ≡ asked scale.now.n scale.now.r (height_in cells.now) arc }
-{
-    scale.climb(cells[arc.target], arc.priority)
+// Heights on their way up: lent cells, one for each position of the arena, and the scale that they climb by.
+#[derive(Drop)]
+struct Ascent<'a, A: Arena> {
+    cells: &'a mut [u32],
+    arena: &'a A,
+    scale: Scale,
+    ghost low: { (A.game arena.now).top ≤ 2 * scale.r + 1 },
+    ghost room: { (A.game arena.now).size ≤ length cells.now },
+    ghost bounded: { (v : ℕ) → v < (A.game arena.now).size → height_in cells.now v ≤ lost scale.n scale.r },
 }
 
-// The due height of position v.
-fn due<A: Arena>(arena: &A, scale: &Scale, cells: &[u32], v: usize) -> u32
-    requires there { v < (A.game arena.now).size }
-    requires low { (A.game arena.now).top ≤ 2 * scale.now.r + 1 }
-    requires room { (A.game arena.now).size ≤ length cells.now }
-    ensures { result ≡ due scale.now.n scale.now.r (A.game arena.now) (height_in cells.now) v }
-{
-    let Some(mover) = arena.mover(v) else {
-        unreachable()
-    };
-    let Some(count) = arena.arc_count(v) else {
-        unreachable()
-    };
-    let mut best = scale.unasked(mover);
-    for i in 0..count {
-        let Some(arc) = arena.arc(v, i) else {
+impl<A: Arena> Ascent<'_, A> {
+    // The due height of position v.
+    fn due(&self, v: usize) -> u32
+        requires { v < (A.game self.now.arena.now).size }
+        ensures { result ≡ due self.now.scale.n self.now.scale.r (A.game self.now.arena.now) (height_in self.now.cells.now) v }
+    {
+        let Some(mover) = self.arena.mover(v) else {
             unreachable()
         };
-        best = better(mover, best, asked(scale, cells, arc));
+        Arcs::of(self.arena, v)
+            .map(|arc| self.scale.climb(self.cells[arc.target], arc.priority))
+            .fold(
+                self.scale.unasked(mover),
+                |best, height| better(mover, best, height),
+            )
     }
-    best
-}
 
-// Raises height v to the one wanted if it is below; the number of raises, 0 or 1.
-fn lift(cells: &mut [u32], v: usize, wanted: u32) -> usize
-    requires { v < length cells.old }
-    ensures count { result ≡ bit (nat_lt (height_in cells.old v) wanted) }
-    ensures cells { cells.new ≡ (if nat_lt (height_in cells.old v) wanted then slice_set cells.old v wanted else cells.old) }
-{
-    if cells[v] >= wanted {
-        return 0;
-    }
-    cells[v] = wanted;
-    1
-}
-
-// Sweeps until a sweep raises nothing, and counts the raises.
-fn sweep<A: Arena>(arena: &A, scale: &Scale, cells: &mut [u32]) -> usize
-    requires low { (A.game arena.now).top ≤ 2 * scale.now.r + 1 }
-    requires room { (A.game arena.now).size ≤ length cells.old }
-    requires bounded { (v : ℕ) → v < (A.game arena.now).size → height_in cells.old v ≤ lost scale.now.n scale.now.r }
-    ensures { Swept scale.now.n scale.now.r (A.game arena.now) cells.old cells.new result }
-{
-    let size = arena.size();
-    let mut total = 0;
-    loop {
+    // One sweep: raises each position that is low to its due height, and counts the raises.
+    fn sweep(&mut self) -> usize
+        ensures cells { self.new.cells.now ≡ swept_to self.old.scale.n self.old.scale.r (A.game self.old.arena.now) (A.game self.old.arena.now).size self.old.cells.now }
+        ensures raises { result ≡ raises_to self.old.scale.n self.old.scale.r (A.game self.old.arena.now) (A.game self.old.arena.now).size self.old.cells.now }
+        ensures same_cells { self.new.cells.ghost_name ≡ self.old.cells.ghost_name }
+        ensures same_arena { self.new.arena ≡ self.old.arena }
+        ensures same_scale { self.new.scale ≡ self.old.scale }
+    {
         let mut raises = 0;
-        for v in 0..size {
-            let wanted = due(arena, scale, cells, v);
-            raises += lift(cells, v, wanted);
+        for v in 0..self.arena.size() {
+            let wanted = self.due(v);
+            if self.cells[v] < wanted {
+                self.cells[v] = wanted;
+                raises += 1;
+            }
         }
-        if raises == 0 {
-            break;
-        }
-        total += raises;
+        raises
     }
-    total
+
+    // Sweeps until a sweep raises nothing, and counts the raises.
+    fn settle(&mut self) -> usize
+        ensures swept { Swept self.old.scale.n self.old.scale.r (A.game self.old.arena.now) self.old.cells.now self.new.cells.now result }
+        ensures same_cells { self.new.cells.ghost_name ≡ self.old.cells.ghost_name }
+    {
+        let mut total = 0;
+        // A `while` would name the sweep twice.
+        loop {
+            let raises = self.sweep();
+            if raises == 0 {
+                break;
+            }
+            total += raises;
+        }
+        total
+    }
 }
 
 // The least closed heights of the arena, for base n and r registers, in its first cells; the reply is the number of raises.
@@ -97,10 +93,14 @@ pub fn least_heights<A: Arena>(arena: &A, n: usize, r: usize, cells: &mut [u32])
         return None;
     }
     let size = arena.size();
-    if arena.top() as usize > 2 * r + 1 || cells.len() < size {
+    if usize::from(arena.top()) > 2 * r + 1 || cells.len() < size {
         return None;
     }
     clear(cells, size);
-    let scale = Scale::new(n, r);
-    Some(sweep(arena, &scale, cells))
+    let mut ascent = Ascent {
+        cells,
+        arena,
+        scale: Scale::new(n, r),
+    };
+    Some(ascent.settle())
 }

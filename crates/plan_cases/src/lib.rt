@@ -2,8 +2,9 @@
 #![tactic(auto)]
 
 use arena::Arena;
-use plans::{Mark, check_form, judge, leaves_at, loses_at};
+use plans::{FormedPlan, Mark, judge};
 use table::Table;
+use text::Fault;
 
 // How a plan is judged: the number and place of the refusal, or the mark.
 #[derive(Clone, Copy, PartialEq, Eq, Debug)]
@@ -30,8 +31,8 @@ fn places(table: &Table, bytes: &[u8]) -> (Option<usize>, Option<usize>) {
     if table.size() > 16 {
         return (None, None);
     }
-    match check_form(table, bytes) {
-        Ok(()) => (leaves_at(table, bytes), loses_at(table, bytes)),
+    match FormedPlan::read(table, bytes) {
+        Ok(plan) => (plan.leaves_at(), plan.loses_at()),
         Err(_) => (None, None),
     }
 }

@@ -1,7 +1,7 @@
 -- The bytes of plans that win the same region differ only in the choices at own positions.
 use Rattle.std.proofs.Common.{◌≡◌, ℕ, zero, suc, ◌+◌, ◌<◌, ◌≤◌, true, false, cond, not, eqb, ltb, List, [], ◌∷◌, length, get_or, sym, refl, ap, ◌∙◌, subst, inl, inr, arith}
 use Rattle.std.proofs.lemmas.Bool.{cases_Bool, and_parts, and_from, both_ways, lt-ltb, not-true, not_from_false, eqb-true, eqb-false, ne_eqb}
-use Rattle.toolkit.proofs.Lists.{same_lists_by}
+use Rattle.std.proofs.lemmas.List.{ext_get_or}
 use Rattle.game.specs.declared.Player.{Player}
 use Rattle.game.specs.declared.Player.TheVariants.{Even, Odd}
 use Rattle.game.specs.Game.{Game, rival}
@@ -86,7 +86,7 @@ module _ (g : Game) (player : Player) (bytes others : List ℕ) (formed : WellFo
   all_same : SameBelow g (plan_of g.size bytes) (plan_of g.size others) g.size → others ≡ bytes
   all_same same =
       let long = formed.headed.whole in
-      sym (same_lists_by bytes others 0 as_long (λ i h. agree_to g.size (omega arith) same i (omega arith)))
+      sym (ext_get_or 0 bytes others as_long (λ i h. agree_to g.size (omega arith) same i (omega arith)))
 
   comes_later : Earlier g (plan_of g.size bytes) (plan_of g.size others) → Before bytes others
   comes_later e =

@@ -77,7 +77,7 @@ module _ (g : Game) (s : Plan) (laws : Lawful g) (n q : ℕ) (few : g.size ≤ n
 -- The same by relations between positions below 16.
 module _ (g : Game) (s : Plan) (laws : Lawful g) (few : g.size ≤ 16) (q : ℕ) (low peaks reached : Relation) (exact : HasMoves g s 0 q low) (tops : HasMoves g s q q peaks) (closure : GivenBy reached (reach 16 (related low))) where
   pub walk_from_closes : (v : ℕ) → v < 16 → SomeCloses reached peaks v → ClosedWalkAt g s q v
-  walk_from_closes v hv (u, w, hu, hw, e) =
+  walk_from_closes v hv (u, hu, (w, hw, e)) =
       let parts = and_parts (related peaks u w) (related reached v u && related reached w v) e in
       let ways = and_parts (related reached v u) (related reached w v) parts.1 in
       let m = (tops u w hu hw).0 parts.0 in
@@ -102,4 +102,4 @@ module _ (g : Game) (s : Plan) (laws : Lawful g) (few : g.size ≤ 16) (q : ℕ)
       let hu : u < 16 = omega arith in
       let hw : w < 16 = omega arith in
       let top = (tops u w hu hw).1 (record { priority = q; move = circle.move; not_lower = omega arith; not_higher = omega arith }) in
-      (u, w, hu, hw, and_from (related peaks u w) (related reached v u && related reached w v) top (and_from (related reached v u) (related reached w v) (closure v u hv hu ∙ circle.there) (closure w v hw hv ∙ circle.back)))
+      (u, hu, (w, hw, and_from (related peaks u w) (related reached v u && related reached w v) top (and_from (related reached v u) (related reached w v) (closure v u hv hu ∙ circle.there) (closure w v hw hv ∙ circle.back))))

@@ -1,36 +1,29 @@
 -- Bytes are well-formed or have one fault.
 use Rattle.std.proofs.Common.{◌≡◌, ℕ, ◌+◌, ◌⊎◌, List, length, sym, refl, ap, ◌∙◌, inl, inr, arith}
-use Rattle.std.proofs.lemmas.Bool.{cases_Bool, cases_lt, cases_eq, cases_order}
-use Rattle.game.specs.declared.Player.{Player}
-use Rattle.game.specs.declared.Player.TheVariants.{Even, Odd}
-use Rattle.game.specs.Game.{Game, rival}
+use Rattle.std.proofs.Math.Logic.{∥∥₁_elim}
+use mathlib.Core.HLevel.{⊥_prop}
+use Rattle.std.proofs.lemmas.Bool.{cases_lt, cases_eq, cases_order}
+use Rattle.game.specs.Game.{Game}
 use Rattle.game.specs.Lowest.{LowestWithout}
 use Rattle.toolkit.proofs.Search.{seek_least}
 use Rattle.plans.specs.declared.fault.PlanFault.{PlanFault}
 use Rattle.plans.specs.declared.fault.PlanFault.TheVariants.{Length, Owner, Size, Choice}
 use Rattle.plans.specs.Bytes.{byte, player_of, choice_byte, Headed, ChoiceFits, WellFormed}
 use Rattle.plans.specs.Refusals.{Refuses}
-use Rattle.plans.specs.Findings.{same}
 use Rattle.plans.specs.Theorems.{FaultsComplete}
-use Rattle.plans.proofs.Following.{same_equal, same_rival}
-
-not_its_rival : (a : Player) → a ≡ rival a → ⊥
-not_its_rival Even e = let z : ◌≡◌ {A = ℕ} 0 1 = cc in omega arith
-not_its_rival Odd e = let z : ◌≡◌ {A = ℕ} 0 1 = cc in omega arith
+use Rattle.plans.proofs.Following.{own_or_rivals, not_its_rival}
 
 module _ (g : Game) (bytes : List ℕ) where
   fits_or_not : (v : ℕ) → (ChoiceFits g bytes v → ⊥) ⊎ ChoiceFits g bytes v
   fits_or_not v = elim (cases_eq (choice_byte bytes v) 255) [
     | inl unclaimed ↦ inr (record { own = λ _. inl unclaimed; other = λ _. inr unclaimed })
-    | inr claimed ↦ elim (cases_Bool (same (g.mover v) (player_of bytes))) [
-      | inl e ↦
-          let own = same_equal (g.mover v) (player_of bytes) e in
+    | inr claimed ↦ elim (own_or_rivals (g.mover v) (player_of bytes)) [
+      | inl own ↦
           elim (cases_lt (choice_byte bytes v) (length (g.arcs v))) [
             | inl arc ↦ inr (record { own = λ _. inr arc; other = λ other. absurd (not_its_rival (player_of bytes) (sym own ∙ other)) })
             | inr past ↦ inl (λ fits. elim (fits.own own) [ inl unclaimed ↦ claimed unclaimed | inr arc ↦ omega arith ])
           ]
-      | inr e ↦
-          let other = same_rival (g.mover v) (player_of bytes) e in
+      | inr other ↦
           elim (cases_eq (choice_byte bytes v) 254) [
             | inl marked ↦ inr (record { own = λ own. absurd (not_its_rival (player_of bytes) (sym own ∙ other)); other = λ _. inl marked })
             | inr apart ↦ inl (λ fits. elim (fits.other other) [ inl marked ↦ apart marked | inr unclaimed ↦ claimed unclaimed ])
@@ -86,6 +79,13 @@ module _ (g : Game) (bytes : List ℕ) where
   one_fault (Choice v) Owner x y = let low = x.0.player in let high = y.1 in absurd (omega arith)
   one_fault (Choice v) Size x y = absurd (y.2 x.0.positions)
   one_fault (Choice v) (Choice w) x y = ap Choice (lowest_same x.1 y.1)
+
+-- well-formed bytes, where it is known only that they are
+pub formed_from : (g : Game) (bytes : List ℕ) → ∥ WellFormed g bytes ∥₁ → WellFormed g bytes
+formed_from g bytes known = elim (formed_or_refused g bytes) [
+  | inl formed ↦ formed
+  | inr (fault, refused) ↦ absurd (∥∥₁_elim known ⊥_prop (λ formed. not_both g bytes fault formed refused))
+]
 
 pub faults_complete : FaultsComplete
 faults_complete = record { formed_or_refused = formed_or_refused; not_both = not_both; one_fault = one_fault }

@@ -1,118 +1,72 @@
 -- The moves that follow a plan, by the arcs of a position.
-use Rattle.std.proofs.Common.{◌≡◌, ℕ, zero, suc, ◌<◌, ◌≤◌, true, false, not, ◌&&◌, ◌||◌, eqb, ltb, leb, List, [], ◌∷◌, length, Some, None, Option, sym, refl, ap, ◌∙◌, inl, inr, arith}
-use Rattle.std.specs.List.{slice_get}
-use Rattle.std.proofs.lemmas.Option.{slice_get_past}
-use Rattle.std.proofs.lemmas.Bool.{cases_Bool, cases_lt, cond-true, cond-false, both_ways, true≢false, and_parts, and_from, or_cases, or_left, or_right, lt-ltb, eqb-true, eq-eqb, leb-true, le-leb, not-true, not_from_false}
+use Rattle.std.proofs.Common.{◌≡◌, ℕ, ◌<◌, ◌≤◌, Bool, true, false, MatchBool, ◌⊎◌, List, ◌∷◌, length, Some, None, Option, sym, refl, ap, ◌∙◌, inl, inr, arith}
+use Rattle.std.proofs.lemmas.Bool.{cases_Bool, cases_eq, both_ways}
+use Rattle.std.proofs.lemmas.Option.{slice_get_within, none-some, same_Some}
 use Rattle.game.specs.declared.Player.{Player}
 use Rattle.game.specs.declared.Player.TheVariants.{Even, Odd}
 use Rattle.game.specs.declared.Arc.{Arc}
 use Rattle.game.specs.Game.{Game, Lawful, rival, arc_at}
 use Rattle.game.specs.Plans.{Plan, Follows, Walk}
 use Rattle.game.specs.Plans.Walk.{step}
-use Rattle.game.proofs.Arcs.{arc_there, none_is_not_some}
-use Rattle.plans.specs.Findings.{same, followed, followed_arc, leads_to, leads_out, MovesBetween}
+use Rattle.game.proofs.Arcs.{arc_there}
+use Rattle.toolkit.proofs.Search.{seek}
+use Rattle.plans.specs.Findings.{Tells, MovesBetween}
 use Rattle.plans.specs.Marks.{StepsOut}
 
-pub same_equal : (a b : Player) → same a b ≡ true → a ≡ b
-same_equal Even Even e = refl
-same_equal Even Odd e = absurd (both_ways false refl e)
-same_equal Odd Even e = absurd (both_ways false refl e)
-same_equal Odd Odd e = refl
+pub own_or_rivals : (a b : Player) → (a ≡ b) ⊎ (a ≡ rival b)
+own_or_rivals Even Even = inl refl
+own_or_rivals Even Odd = inr refl
+own_or_rivals Odd Even = inr refl
+own_or_rivals Odd Odd = inl refl
 
-pub same_rival : (a b : Player) → same a b ≡ false → a ≡ rival b
-same_rival Even Even e = absurd (both_ways true e refl)
-same_rival Even Odd e = refl
-same_rival Odd Even e = refl
-same_rival Odd Odd e = absurd (both_ways true e refl)
+pub not_its_rival : (a : Player) → a ≡ rival a → ⊥
+not_its_rival Even e = let z : ◌≡◌ {A = ℕ} 0 1 = cc in omega arith
+not_its_rival Odd e = let z : ◌≡◌ {A = ℕ} 0 1 = cc in omega arith
 
-same_itself : (a b : Player) → a ≡ b → same a b ≡ true
-same_itself a b e = rw e (itself b)
-  where
-    itself : (x : Player) → same x x ≡ true
-    itself Even = refl
-    itself Odd = refl
+same_arc : (a b : Arc) → a.target ≡ b.target → a.priority ≡ b.priority → a ≡ b
+same_arc a b t p = ap (λ (n : ℕ). record { target = n; priority = a.priority }) t ∙ ap (λ (n : ℕ). record { target = b.target; priority = n }) p
 
-nth_inside : {A : Type 0} (xs : List A) (i : ℕ) (x : A) → slice_get xs i ≡ Some x → i < length xs
-nth_inside xs i x e = elim (cases_lt i (length xs)) [
-  | inl h ↦ h
-  | inr past ↦ absurd (none_is_not_some x (sym (slice_get_past xs i past) ∙ e))
-]
-
-nth_there : {A : Type 0} (xs : List A) (i : ℕ) → i < length xs → None ≡ slice_get xs i → ⊥
-nth_there [] i h e = omega arith
-nth_there (x ∷ xs) zero h e = none_is_not_some x e
-nth_there (x ∷ xs) (suc i) h e = nth_there xs i (omega arith) e
-
-pub not_absent : (g : Game) (v i : ℕ) → v < g.size → i < length (g.arcs v) → None ≡ arc_at g v i → ⊥
-not_absent g v i there h e = nth_there (g.arcs v) i h (e ∙ cond-true (ltb v g.size) (slice_get (g.arcs v) i) None (lt-ltb v g.size there))
+-- Moves that follow the plan may leave position v by arc i: it is claimed, and the arc is the chosen one where the plan's player moves.
+pub record MayTake (g : Game) (s : Plan) (v i : ℕ) : Type 0 where
+  pub claimed : s.claims v ≡ true
+  pub chosen : g.mover v ≡ s.player → i ≡ s.choice v
 
 module _ (g : Game) (s : Plan) where
-  pub follows_from_arc : (v i : ℕ) (a : Arc) → followed_arc g s v i ≡ Some a → Follows g s v a.target a.priority
-  follows_from_arc v i a e = elim (cases_Bool (followed g s v i)) [
-    | inr out ↦ absurd (none_is_not_some a (sym (cond-false (followed g s v i) (arc_at g v i) None out) ∙ e))
-    | inl in_plan ↦
-        let parts = and_parts (s.claims v) (not (same (g.mover v) s.player) || eqb i (s.choice v)) in_plan in
-        record {
-          number = i;
-          arc = a;
-          claimed = parts.0;
-          is_arc = sym (cond-true (followed g s v i) (arc_at g v i) None in_plan) ∙ e;
-          chosen = λ mine. elim (or_cases (not (same (g.mover v) s.player)) (eqb i (s.choice v)) parts.1) [
-            | inl other ↦ absurd (both_ways (same (g.mover v) s.player) (not-true (same (g.mover v) s.player) other) (same_itself (g.mover v) s.player mine))
-            | inr chosen ↦ eqb-true i (s.choice v) chosen
-          ];
-          leads = refl;
-          costs = refl;
-        }
+  may_take_or_not : (v i : ℕ) → MayTake g s v i ⊎ (MayTake g s v i → ⊥)
+  may_take_or_not v i = elim (cases_Bool (s.claims v)) [
+    | inr unclaimed ↦ inr (λ may. both_ways (s.claims v) unclaimed may.claimed)
+    | inl claimed ↦ elim (cases_eq i (s.choice v)) [
+      | inl chosen ↦ inl (record { claimed = claimed; chosen = λ _. chosen })
+      | inr other ↦ elim (own_or_rivals (g.mover v) s.player) [
+        | inl own ↦ inr (λ may. other (may.chosen own))
+        | inr rivals ↦ inl (record { claimed = claimed; chosen = λ own. absurd (not_its_rival s.player (sym own ∙ rivals)) })
+      ]
+    ]
   ]
 
-  pub arc_from_follows : (v w p : ℕ) (m : Follows g s v w p) → (m.number < length (g.arcs v)) × (followed_arc g s v m.number ≡ Some m.arc)
-  arc_from_follows v w p m =
-      let i = m.number in
-      let mine = same (g.mover v) s.player in
-      let allowed : (not mine || eqb i (s.choice v)) ≡ true = elim (cases_Bool mine) [
-        | inl own ↦ or_right (not mine) (eqb i (s.choice v)) (eq-eqb i (s.choice v) (m.chosen (same_equal (g.mover v) s.player own)))
-        | inr other ↦ or_left (not mine) (eqb i (s.choice v)) (not_from_false mine other)
-      ] in (
-        nth_inside (g.arcs v) i m.arc (arc_there g v i m.arc m.is_arc).1,
-        cond-true (followed g s v i) (arc_at g v i) None (and_from (s.claims v) (not mine || eqb i (s.choice v)) m.claimed allowed) ∙ m.is_arc,
-      )
+  pub follows_by : (v i : ℕ) (a : Arc) → MayTake g s v i → arc_at g v i ≡ Some a → Follows g s v a.target a.priority
+  follows_by v i a may is = record { number = i; arc = a; claimed = may.claimed; is_arc = is; chosen = may.chosen; leads = refl; costs = refl }
 
-  module _ (low high u w : ℕ) where
-    pub moves_from_arc : (i : ℕ) (o : Option Arc) → o ≡ followed_arc g s u i → true ≡ leads_to low high w o → MovesBetween g s low high u w
-    moves_from_arc i None is h = absurd (true≢false h)
-    moves_from_arc i (Some a) is h =
-        let parts = and_parts (eqb a.target w) (leb low a.priority && leb a.priority high) (sym h) in
-        let bounds = and_parts (leb low a.priority) (leb a.priority high) parts.1 in
-        record {
-          priority = a.priority;
-          move = rw (eqb-true a.target w parts.0) at (follows_from_arc u i a (sym is));
-          not_lower = leb-true low a.priority bounds.0;
-          not_higher = leb-true a.priority high bounds.1;
-        }
+  -- a move by an arc: its number, which the plan may take
+  pub taken_by : (v : ℕ) (a : Arc) → Follows g s v a.target a.priority → (i : ℕ) × MayTake g s v i × (arc_at g v i ≡ Some a)
+  taken_by v a m = (m.number, record { claimed = m.claimed; chosen = m.chosen }, rw (same_arc m.arc a m.leads m.costs) at m.is_arc)
 
-    -- where no arc leads from u to w so, no move does
-    pub no_moves_from_arcs : ((i : ℕ) → i < length (g.arcs u) → leads_to low high w (followed_arc g s u i) ≡ false) → MovesBetween g s low high u w → ⊥
-    no_moves_from_arcs none found =
-        let m = found.move in
-        let (inside, is) = arc_from_follows u w found.priority m in
-        let a = m.arc in
-        let low_enough : low ≤ a.priority = rw m.costs found.not_lower in
-        let high_enough : a.priority ≤ high = rw m.costs found.not_higher in
-        let leads : leads_to low high w (Some a) ≡ true = and_from (eqb a.target w) (leb low a.priority && leb a.priority high) (eq-eqb a.target w m.leads) (and_from (leb low a.priority) (leb a.priority high) (le-leb low a.priority low_enough) (le-leb a.priority high high_enough)) in
-        both_ways (leads_to low high w (followed_arc g s u m.number)) (none m.number inside) (ap (leads_to low high w) is ∙ leads)
-
-  module _ (v : ℕ) where
-    pub steps_out_from_arc : (i : ℕ) (o : Option Arc) → o ≡ followed_arc g s v i → true ≡ leads_out s o → StepsOut g s v
-    steps_out_from_arc i None is h = absurd (true≢false h)
-    steps_out_from_arc i (Some a) is h = record { to = a.target; priority = a.priority; move = follows_from_arc v i a (sym is); unclaimed = not-true (s.claims a.target) (sym h) }
-
-    pub no_steps_out_from_arcs : ((i : ℕ) → i < length (g.arcs v) → leads_out s (followed_arc g s v i) ≡ false) → StepsOut g s v → ⊥
-    no_steps_out_from_arcs none found =
-        let m = found.move in
-        let (inside, is) = arc_from_follows v found.to found.priority m in
-        let out : s.claims m.arc.target ≡ false = rw m.leads found.unclaimed in
-        both_ways (leads_out s (followed_arc g s v m.number)) (none m.number inside) (ap (leads_out s) is ∙ not_from_false (s.claims m.arc.target) out)
+  -- some following move from v is by an arc with P, or none is
+  pub some_move_or_none : (P : Arc → Type 0) → ((a : Arc) → P a ⊎ (P a → ⊥)) → (v : ℕ) → ((a : Arc) × Follows g s v a.target a.priority × P a) ⊎ ((a : Arc) → Follows g s v a.target a.priority → P a → ⊥)
+  some_move_or_none P decide v = elim (seek {P = λ i. (a : Arc) × MayTake g s v i × (arc_at g v i ≡ Some a) × P a} {Q = λ i. (a : Arc) → MayTake g s v i → arc_at g v i ≡ Some a → P a → ⊥} (length (g.arcs v)) (λ i h. at i (arc_at g v i) refl)) [
+    | inl (i, _, (a, may, is, p)) ↦ inl (a, follows_by v i a may is, p)
+    | inr none ↦ inr (λ a m p. let (i, may, is) = taken_by v a m in none i (slice_get_within (g.arcs v) i a (arc_there g v i a is).1) a may is p)
+  ]
+    where
+      at : (i : ℕ) (o : Option Arc) → arc_at g v i ≡ o → ((a : Arc) × MayTake g s v i × (arc_at g v i ≡ Some a) × P a) ⊎ ((a : Arc) → MayTake g s v i → arc_at g v i ≡ Some a → P a → ⊥)
+      at i None is = inr (λ a may some p. none-some a (sym is ∙ some))
+      at i (Some a) is = elim (may_take_or_not v i) [
+        | inr cannot ↦ inr (λ b may some p. cannot may)
+        | inl may ↦ elim (decide a) [
+          | inl p ↦ inl (a, may, is, p)
+          | inr lacks ↦ inr (λ b _ some p. lacks (rw (same_Some a b (sym is ∙ some)) p))
+        ]
+      ]
 
   pub move_from_inside : {u w p : ℕ} → Follows g s u w p → u < g.size
   move_from_inside {u} m = (arc_there g u m.number m.arc m.is_arc).0
@@ -126,3 +80,19 @@ module _ (g : Game) (s : Plan) where
 
     pub move_low : {u w p : ℕ} → Follows g s u w p → p ≤ g.top
     move_low {u} m = rw (← m.costs) (laws.priority_low u m.number m.arc m.is_arc)
+
+  -- what a search among the moves from v tells, for a test of arcs that lead out, or to w by a priority within bounds
+  module _ {Yes No : Arc → Type 0} (v : ℕ) where
+    pub tells_steps_out : (r : Bool) → MatchBool r ((a : Arc) × Follows g s v a.target a.priority × Yes a) ((a : Arc) → Follows g s v a.target a.priority → No a) → ((a : Arc) → Yes a → s.claims a.target ≡ false) → ((a : Arc) → No a → s.claims a.target ≡ true) → Tells r (StepsOut g s v)
+    tells_steps_out true (a, move, passes) out inside = record { to = a.target; priority = a.priority; move = move; unclaimed = out a passes }
+    tells_steps_out false none out inside = λ found.
+        let a : Arc = record { target = found.to; priority = found.priority } in
+        both_ways (s.claims found.to) found.unclaimed (inside a (none a found.move))
+
+    pub tells_moves : (low high w : ℕ) (r : Bool) → MatchBool r ((a : Arc) × Follows g s v a.target a.priority × Yes a) ((a : Arc) → Follows g s v a.target a.priority → No a) → ((a : Arc) → Yes a → (a.target ≡ w) × (low ≤ a.priority) × (a.priority ≤ high)) → ((a : Arc) → No a → a.target ≡ w → low ≤ a.priority → a.priority ≤ high → ⊥) → Tells r (MovesBetween g s low high v w)
+    tells_moves low high w true (a, move, passes) leads strays =
+        let (to, not_lower, not_higher) = leads a passes in
+        record { priority = a.priority; move = rw to at move; not_lower = not_lower; not_higher = not_higher }
+    tells_moves low high w false none leads strays = λ m.
+        let a : Arc = record { target = w; priority = m.priority } in
+        strays a (none a m.move) refl m.not_lower m.not_higher

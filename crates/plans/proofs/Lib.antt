@@ -1,7 +1,8 @@
-pub mod Cells
+pub mod Searches
 pub mod Following
+pub mod Complete
+pub mod Choices
 pub mod Circles
 pub mod Lows
-pub mod Complete
 pub mod Winning
 pub mod Worked

@@ -1,8 +1,9 @@
 -- Every well-formed plan has one mark, and passes exactly when it wins.
-use Rattle.std.proofs.Common.{◌≡◌, ℕ, zero, suc, ◌%◌, ◌<◌, ◌≤◌, Bool, true, false, not, eqb, ltb, ◌⊎◌, ◌↔◌, List, ◌∷◌, ◌++◌, length, Some, None, Ok, Err, Decides, Option, Result, sym, refl, ap, ◌∙◌, subst, inl, inr, add-one, arith, MatchResult}
-use Rattle.std.proofs.lemmas.Bool.{cases_Bool, cases_eq, both_ways, and_parts, ltb-true, eqb-false, not-true}
+use Rattle.std.proofs.Common.{◌≡◌, ℕ, ◌%◌, ◌<◌, ◌≤◌, Bool, true, false, not, eqb, ltb, ◌⊎◌, ◌↔◌, List, ◌∷◌, ◌++◌, Some, None, Ok, Err, Decides, Option, Result, refl, ap, ◌∙◌, subst, inl, inr, arith, MatchResult}
+use Rattle.std.proofs.lemmas.Bool.{cases_Bool, cases_eq, cases_lt, both_ways, and_parts, ltb-true, eqb-false, not-true}
 use Rattle.game.specs.declared.Player.{Player}
 use Rattle.game.specs.declared.Player.TheVariants.{Even, Odd}
+use Rattle.game.specs.declared.Arc.{Arc}
 use Rattle.game.specs.Game.{Game, Lawful, parity, rival}
 use Rattle.game.specs.Plans.{Plan, Follows, Walk, Wins, highest}
 use Rattle.toolkit.specs.Reachability.{reach}
@@ -15,11 +16,11 @@ use Rattle.plans.specs.Bytes.{choice_byte, plan_of, WellFormed}
 use Rattle.plans.specs.Judging.{FormedAndMarked, Judges, WinningBytes}
 use Rattle.plans.specs.Refusals.{Refuses}
 use Rattle.plans.specs.Marks.{StepsOut, OnLosingWalk, Found, Marks}
-use Rattle.plans.specs.Findings.{followed_arc, leads_to, leads_out, MovesBetween, ClosedWalkAt, WrongWalkBelow}
+use Rattle.plans.specs.Findings.{MovesBetween, ClosedWalkAt}
 use Rattle.plans.specs.Theorems.{MarksComplete}
-use Rattle.plans.proofs.Following.{moves_from_arc, no_moves_from_arcs, steps_out_from_arc, no_steps_out_from_arcs, move_from_inside, move_to_inside, walk_from_inside}
+use Rattle.plans.proofs.Following.{some_move_or_none, move_from_inside, move_to_inside, walk_from_inside}
 use Rattle.plans.proofs.Circles.{Circle, circle_from_walk, walk_from_circle}
-use Rattle.plans.proofs.Lows.{one_lowest, lowest_or_none, no_wrong_walk_below, right_walk_more, wrong_walk_more, losing_from_wrong}
+use Rattle.plans.proofs.Lows.{one_lowest, lowest_or_none, losing_found}
 use Rattle.plans.proofs.Complete.{not_both}
 
 -- the other parity is the rival's
@@ -33,15 +34,27 @@ not_both_parities Odd n x y = omega arith
 
 module _ (g : Game) (s : Plan) where
   moves_or_none : (low high u w : ℕ) → MovesBetween g s low high u w ⊎ (MovesBetween g s low high u w → ⊥)
-  moves_or_none low high u w = elim (seek {P = λ i. leads_to low high w (followed_arc g s u i) ≡ true} {Q = λ i. leads_to low high w (followed_arc g s u i) ≡ false} (length (g.arcs u)) (λ i h. cases_Bool (leads_to low high w (followed_arc g s u i)))) [
-    | inl (i, _, e) ↦ inl (moves_from_arc g s low high u w i (followed_arc g s u i) refl (sym e))
-    | inr none ↦ inr (no_moves_from_arcs g s low high u w none)
+  moves_or_none low high u w = elim (some_move_or_none g s (λ a. (a.target ≡ w) × (low ≤ a.priority) × (a.priority ≤ high)) leads u) [
+    | inl (a, move, (to, l, h)) ↦ inl (record { priority = a.priority; move = rw to at move; not_lower = l; not_higher = h })
+    | inr none ↦ inr (λ m. none (record { target = w; priority = m.priority }) m.move (refl, m.not_lower, m.not_higher))
   ]
+    where
+      leads : (a : Arc) → ((a.target ≡ w) × (low ≤ a.priority) × (a.priority ≤ high)) ⊎ ((a.target ≡ w) × (low ≤ a.priority) × (a.priority ≤ high) → ⊥)
+      leads a = elim (cases_eq a.target w) [
+        | inr apart ↦ inr (λ p. apart p.0)
+        | inl to ↦ elim (cases_lt a.priority low) [
+          | inl below ↦ inr (λ p. let l = p.1 in omega arith)
+          | inr l ↦ elim (cases_lt high a.priority) [
+            | inl above ↦ inr (λ p. let h = p.2 in omega arith)
+            | inr h ↦ inl (to, l, h)
+          ]
+        ]
+      ]
 
   steps_out_or_not : (v : ℕ) → StepsOut g s v ⊎ (StepsOut g s v → ⊥)
-  steps_out_or_not v = elim (seek {P = λ i. leads_out s (followed_arc g s v i) ≡ true} {Q = λ i. leads_out s (followed_arc g s v i) ≡ false} (length (g.arcs v)) (λ i h. cases_Bool (leads_out s (followed_arc g s v i)))) [
-    | inl (i, _, e) ↦ inl (steps_out_from_arc g s v i (followed_arc g s v i) refl (sym e))
-    | inr none ↦ inr (no_steps_out_from_arcs g s v none)
+  steps_out_or_not v = elim (some_move_or_none g s (λ a. s.claims a.target ≡ false) (λ a. elim (cases_Bool (s.claims a.target)) [ inl claimed ↦ inr (λ out. both_ways (s.claims a.target) out claimed) | inr out ↦ inl out ]) v) [
+    | inl (a, move, out) ↦ inl (record { to = a.target; priority = a.priority; move = move; unclaimed = out })
+    | inr none ↦ inr (λ out. none (record { target = out.to; priority = out.priority }) out.move out.unclaimed)
   ]
 
   -- whether a move of priority at most q leads from u to w
@@ -92,24 +105,18 @@ module _ (g : Game) (s : Plan) where
       | inr none ↦ inr (λ closed. none (circle_from_walk g s laws g.size q (omega arith) (low_move q) (λ u w hu hw. low_move_exact q u w) v closed))
     ]
 
-    wrong_walks_found : (end : ℕ) → (o : Option ℕ) × Found (WrongWalkBelow g s end) o
-    wrong_walks_found zero = (None, no_wrong_walk_below g s)
-    wrong_walks_found (suc q) = elim (cases_eq (q % 2) (parity (rival s.player))) [
-      | inl wrong ↦
-          let before = wrong_walks_found q in
-          let here = lowest_or_none g.size (λ v h. closed_or_not q v) (λ v (closed : ClosedWalkAt g s q v). walk_from_inside g s closed.walk) in
-          rw (← add-one q) (_, wrong_walk_more g s q wrong before.0 here.0 before.1 here.1)
-      | inr right ↦ let before = wrong_walks_found q in rw (← add-one q) (before.0, right_walk_more g s q right before.0 before.1)
-    ]
+    -- the lowest position from which a closed walk has this highest priority
+    pub closed_found : (q : ℕ) → (o : Option ℕ) × Found (ClosedWalkAt g s q) o
+    closed_found q = lowest_or_none g.size (λ v h. closed_or_not q v) (λ v (closed : ClosedWalkAt g s q v). walk_from_inside g s closed.walk)
 
-    losing_found : (o : Option ℕ) × Found (OnLosingWalk g s) o
-    losing_found = let found = wrong_walks_found (suc g.top) in (found.0, losing_from_wrong g s laws (suc g.top) (omega arith) found.0 found.1)
+    losing_or_none : (o : Option ℕ) × Found (OnLosingWalk g s) o
+    losing_or_none = (_, losing_found g s laws (λ q. (closed_found q).0) (λ q. (closed_found q).1))
 
     leaving_found : (o : Option ℕ) × Found (StepsOut g s) o
     leaving_found = lowest_or_none g.size (λ v h. steps_out_or_not v) (λ v (out : StepsOut g s v). move_from_inside g s out.move)
 
     some_mark : (mark : Mark) × Marks g s mark
-    some_mark = marked leaving_found.0 losing_found.0 leaving_found.1 losing_found.1
+    some_mark = marked leaving_found.0 losing_or_none.0 leaving_found.1 losing_or_none.1
       where
         marked : (a b : Option ℕ) → Found (StepsOut g s) a → Found (OnLosingWalk g s) b → (mark : Mark) × Marks g s mark
         marked (Some p) b leaves loses = (Leaves p, leaves)

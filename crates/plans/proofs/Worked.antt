@@ -2,11 +2,12 @@
 use Rattle.std.proofs.Common.{◌≡◌, ℕ, zero, suc, ◌%◌, ◌<◌, ◌⊎◌, List, [], ◌∷◌, Some, sym, refl, ap, ◌∙◌, inl, inr, arith, lit<, lit≤}
 use Rattle.std.specs.List.{slice_get}
 use Rattle.std.proofs.lemmas.Bool.{both_ways}
+use Rattle.std.proofs.lemmas.Option.{none-some, same_Some}
 use Rattle.game.specs.declared.Arc.{Arc}
 use Rattle.game.specs.Game.{Game}
 use Rattle.game.specs.Plans.{Plan, Follows, Walk, highest}
 use Rattle.game.specs.Plans.Walk.{stay, step}
-use Rattle.game.proofs.Arcs.{arc_there, some_same, none_is_not_some}
+use Rattle.game.proofs.Arcs.{arc_there}
 use Rattle.plans.specs.declared.mark.Mark.TheVariants.{Passes, Leaves, Loses}
 use Rattle.plans.specs.Bytes.{plan_of, ChoiceFits, WellFormed}
 use Rattle.plans.specs.Marks.{Marks}
@@ -34,7 +35,7 @@ Kind b u w p = ((u ≡ 0) × (b ≡ 0) × (w ≡ 1) × (p ≡ 1)) ⊎ (((u ≡ 0
 
 arc_is : {g : Game} {s : Plan} {u w p : ℕ} (m : Follows g s u w p) (x : Arc) → Some x ≡ Some m.arc → (w ≡ x.target) × (p ≡ x.priority)
 arc_is m x e =
-    let same = some_same x m.arc e in
+    let same = same_Some x m.arc e in
     (sym (ap (λ (a : Arc). a.target) same ∙ m.leads), sym (ap (λ (a : Arc). a.priority) same ∙ m.costs))
 
 kind : (b u w p : ℕ) → Follows roof (plan b) u w p → Kind b u w p
@@ -43,12 +44,12 @@ kind b zero w p m = at m.number (m.chosen refl) (arc_there roof 0 m.number m.arc
     at : (i : ℕ) → i ≡ b → slice_get (roof.arcs 0) i ≡ Some m.arc → Kind b 0 w p
     at zero e h = let is = arc_is m (arc_to 1 1) h in inl (refl, sym e, is.0, is.1)
     at (suc zero) e h = let is = arc_is m (arc_to 0 2) h in inr (inl (refl, sym e, is.0, is.1))
-    at (suc (suc i)) e h = absurd (none_is_not_some m.arc h)
+    at (suc (suc i)) e h = absurd (none-some m.arc h)
 kind b (suc zero) w p m = at m.number (arc_there roof 1 m.number m.arc m.is_arc).1
   where
     at : (i : ℕ) → slice_get (roof.arcs 1) i ≡ Some m.arc → Kind b 1 w p
     at zero h = let is = arc_is m (arc_to 0 0) h in inr (inr (refl, is.0, is.1))
-    at (suc i) h = absurd (none_is_not_some m.arc h)
+    at (suc i) h = absurd (none-some m.arc h)
 kind b (suc (suc u)) w p m = let inside = (arc_there roof (suc (suc u)) m.number m.arc m.is_arc).0 in absurd (omega arith)
 
 -- from 1 there is one move, whatever is chosen at 0

@@ -1,4 +1,5 @@
 pub mod Bytes
+pub mod Choices
 pub mod Refusals
 pub mod Marks
 pub mod Judging

@@ -1,6 +1,10 @@
 // Why bytes are refused as a plan.
 ghost use Rattle.std.specs.Prelude.{◌≡◌};
+ghost use Rattle.plans.specs.declared.fault.PlanFault.TheVariants.{Owner};
 ghost use Rattle.plans.specs.Refusals.{number_of, place_of};
+
+use game::NoPlayer;
+use text::Fault;
 
 // Each fault has a number, and a place: 0 or a position.
 #[derive(Clone, Copy, PartialEq, Eq, Debug)]
@@ -15,11 +19,21 @@ pub enum PlanFault {
     Choice(usize),
 }
 
-impl PlanFault {
-    pub fn number(self) -> usize
-        ensures { result ≡ number_of self }
-    {
-        match self {
+impl From<NoPlayer> for PlanFault {
+    ghost from_gives = { λ _ fault. fault ≡ Owner };
+
+    fn from(_byte: NoPlayer) -> PlanFault {
+        PlanFault::Owner
+    }
+}
+
+impl Fault for PlanFault {
+    ghost number_of = { number_of };
+
+    ghost place_of = { place_of };
+
+    fn number(&self) -> usize {
+        match *self {
             PlanFault::Length => 20,
             PlanFault::Owner => 21,
             PlanFault::Size => 22,
@@ -27,10 +41,8 @@ impl PlanFault {
         }
     }
 
-    pub fn place(self) -> usize
-        ensures { result ≡ place_of self }
-    {
-        match self {
+    fn place(&self) -> usize {
+        match *self {
             PlanFault::Length | PlanFault::Owner | PlanFault::Size => 0,
             PlanFault::Choice(v) => v,
         }

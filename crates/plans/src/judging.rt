@@ -1,27 +1,27 @@
 // Judging a plan.
 ghost use Rattle.std.specs.Prelude.{◌≡◌, ◌≤◌, ◌↔◌, Some, Ok, MatchResult};
 ghost use Rattle.plans.specs.declared.mark.Mark.TheVariants.{Passes};
-ghost use Rattle.plans.specs.Bytes.{plan_of, WellFormed};
+ghost use Rattle.plans.specs.Bytes.{plan_of};
 ghost use Rattle.plans.specs.Judging.{FormedAndMarked, Judges, WinningBytes};
 ghost use Rattle.plans.specs.Marks.{Marks};
 ghost use Rattle.plans.specs.Refusals.{Refuses};
 
 use super::fault::PlanFault;
-use super::findings::{leaves_at, loses_at};
-use super::form::check_form;
 use super::mark::Mark;
+use super::plan::FormedPlan;
 use arena::Arena;
 
-// The mark of a well-formed plan. Where it both leaves and loses, it leaves.
-fn mark_of<A: Arena>(arena: &A, bytes: &[u8]) -> Mark
-    requires few { (A.game arena.now).size ≤ 16 }
-    requires formed { WellFormed (A.game arena.now) bytes.now }
-    ensures { Marks (A.game arena.now) (plan_of (A.game arena.now).size bytes.now) result }
-{
-    match (leaves_at(arena, bytes), loses_at(arena, bytes)) {
-        (None, None) => Mark::Passes,
-        (Some(p), _) => Mark::Leaves(p),
-        (None, Some(p)) => Mark::Loses(p),
+impl<A: Arena> FormedPlan<'_, A> {
+    // Its mark. Where the plan both leaves and loses, it leaves.
+    pub fn mark(&self) -> Mark
+        requires few { (A.game self.now.arena.now).size ≤ 16 }
+        ensures { let g = A.game self.now.arena.now in Marks g (plan_of g.size self.now.bytes.now) result }
+    {
+        match (self.leaves_at(), self.loses_at()) {
+            (None, None) => Mark::Passes,
+            (Some(p), _) => Mark::Leaves(p),
+            (None, Some(p)) => Mark::Loses(p),
+        }
     }
 }
 
@@ -30,8 +30,8 @@ fn judged<A: Arena>(arena: &A, bytes: &[u8]) -> Result<Mark, PlanFault>
     requires few { (A.game arena.now).size ≤ 16 }
     ensures { MatchResult result (FormedAndMarked (A.game arena.now) bytes.now) (Refuses (A.game arena.now) bytes.now) }
 {
-    check_form(arena, bytes)?;
-    Ok(mark_of(arena, bytes))
+    let plan = FormedPlan::read(arena, bytes)?;
+    Ok(plan.mark())
 }
 
 // Judges the bytes on an arena of at most 16 positions; nothing is said of them on any other. A plan passes exactly when it wins.

@@ -3,20 +3,19 @@
 
 ghost use Rattle.plans.specs.Theorems.{FaultsComplete, MarksComplete};
 
-mod closure;
+mod choice;
 mod fault;
 mod findings;
-mod form;
 mod judging;
 mod mark;
 mod moves;
+mod plan;
 mod relation;
 
 pub use fault::PlanFault;
-pub use findings::{leaves_at, loses_at};
-pub use form::check_form;
 pub use judging::judge;
 pub use mark::Mark;
+pub use plan::FormedPlan;
 
 // Bytes are well-formed exactly when none of the numbered faults applies; they have one fault at most.
 pub fn plan_faults_complete()

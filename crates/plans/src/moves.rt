@@ -1,108 +1,59 @@
 // The moves that follow a plan.
-ghost use Rattle.std.specs.Prelude.{◌≡◌, ℕ, ◌+◌, ◌<◌, not, ◌||◌, length, ◌==◌};
-ghost use Rattle.plans.specs.Bytes.{plan_of, WellFormed};
-ghost use Rattle.plans.specs.Findings.{Tells, followed_arc, leads_to, leads_out, MovesBetween, HasMoves};
+ghost use Rattle.std.specs.Prelude.{◌≡◌, ◌<◌, not, ◌&&◌, ◌==◌, nat_le};
+ghost use Rattle.plans.specs.Bytes.{plan_of};
+ghost use Rattle.plans.specs.Findings.{Tells, TellsSomeMove, MovesBetween, HasMoves};
 ghost use Rattle.plans.specs.Marks.{StepsOut};
 
-use super::form::{player_of, same};
+use super::plan::FormedPlan;
 use super::relation::Relation;
-use arena::Arena;
+use arena::{Arcs, Arena};
 use game::Arc;
 
-fn claims(bytes: &[u8], v: usize) -> bool
-    ensures { (n : ℕ) → length bytes.now ≡ n + 2 → result ≡ (plan_of n bytes.now).claims v }
+// Whether an arc leads to w with a priority from low to high.
+fn leads_to(arc: Arc, w: usize, low: u8, high: u8) -> bool
+    ensures { result ≡ (arc.target == w && (nat_le low arc.priority && nat_le arc.priority high)) }
 {
-    bytes.len() > 2 && v < bytes.len() - 2 && bytes[v + 2] != 255
+    arc.target == w && (low..=high).contains(&arc.priority)
 }
 
-// Whether the plan's moves from a claimed position are by its chosen arc alone, or by any.
-fn allowed(own: bool, choice: u8, i: usize) -> bool
-    ensures { result ≡ (not own || i == choice) }
-{
-    !own || i == choice as usize
-}
-
-// Arc i of position v, if it follows the plan.
-fn followed_arc<A: Arena>(arena: &A, bytes: &[u8], v: usize, i: usize) -> Option<Arc>
-    requires formed { WellFormed (A.game arena.now) bytes.now }
-    requires there { v < (A.game arena.now).size }
-    requires arc { i < length ((A.game arena.now).arcs v) }
-    ensures { result ≡ followed_arc (A.game arena.now) (plan_of (A.game arena.now).size bytes.now) v i }
-{
-    let Some(mover) = arena.mover(v) else {
-        unreachable()
-    };
-    let Some(arc) = arena.arc(v, i) else {
-        unreachable()
-    };
-    let own = same(mover, player_of(bytes));
-    if claims(bytes, v) && allowed(own, bytes[v + 2], i) {
-        Some(arc)
-    } else {
-        None
+impl<A: Arena> FormedPlan<'_, A> {
+    // Whether some following move from position v is by an arc that passes the test.
+    fn some_move<F: Fn(Arc) -> bool>(&self, v: usize, test: F) -> bool
+        requires there { v < (A.game self.now.arena.now).size }
+        requires callable { F.IsAlwaysCallable test }
+        ensures { let g = A.game self.now.arena.now in TellsSomeMove g (plan_of g.size self.now.bytes.now) v (F.post test) result }
+    {
+        let choice = self.choice(v);
+        Arcs::of(self.arena, v)
+            .enumerate()
+            .any(|(i, arc)| choice.allows(i) && test(arc))
     }
-}
 
-// Whether the arc, if there is one, leads to w with a priority from low to high.
-fn leads_to(arc: Option<Arc>, low: u8, high: u8, w: usize) -> bool
-    ensures { result ≡ leads_to low high w arc }
-{
-    match arc {
-        Some(arc) => arc.target == w && low <= arc.priority && arc.priority <= high,
-        None => false,
+    // Whether an arc leads to a position that is not claimed.
+    fn leads_out(&self, arc: Arc) -> bool
+        ensures { result ≡ not ((plan_of (A.game self.now.arena.now).size self.now.bytes.now).claims arc.target) }
+    {
+        !self.claims(arc.target)
     }
-}
 
-// Whether the arc, if there is one, leads to a position that is not claimed.
-fn leads_out(bytes: &[u8], arc: Option<Arc>) -> bool
-    ensures { (n : ℕ) → length bytes.now ≡ n + 2 → result ≡ leads_out (plan_of n bytes.now) arc }
-{
-    match arc {
-        Some(arc) => !claims(bytes, arc.target),
-        None => false,
+    // Whether a following move from v ends unclaimed.
+    pub(crate) fn steps_out(&self, v: usize) -> bool
+        requires { v < (A.game self.now.arena.now).size }
+        ensures { let g = A.game self.now.arena.now in Tells result (StepsOut g (plan_of g.size self.now.bytes.now) v) }
+    {
+        self.some_move(v, |arc| self.leads_out(arc))
     }
-}
 
-// Whether a following move with a priority from low to high leads from u to w.
-fn leads<A: Arena>(arena: &A, bytes: &[u8], low: u8, high: u8, u: usize, w: usize) -> bool
-    requires formed { WellFormed (A.game arena.now) bytes.now }
-    ensures { Tells result (MovesBetween (A.game arena.now) (plan_of (A.game arena.now).size bytes.now) low high u w) }
-{
-    let Some(count) = arena.arc_count(u) else {
-        return false;
-    };
-    for i in 0..count {
-        if leads_to(followed_arc(arena, bytes, u, i), low, high, w) {
-            return true;
-        }
+    // Whether a following move with a priority from low to high leads from u to w.
+    fn leads(&self, low: u8, high: u8, u: usize, w: usize) -> bool
+        ensures { let g = A.game self.now.arena.now in Tells result (MovesBetween g (plan_of g.size self.now.bytes.now) low high u w) }
+    {
+        u < self.arena.size() && self.some_move(u, |arc| leads_to(arc, w, low, high))
     }
-    false
-}
 
-pub fn moves_between<A: Arena>(arena: &A, bytes: &[u8], low: u8, high: u8) -> Relation
-    requires formed { WellFormed (A.game arena.now) bytes.now }
-    ensures { HasMoves (A.game arena.now) (plan_of (A.game arena.now).size bytes.now) low high result }
-{
-    let mut cells = [false; 256];
-    for c in 0..256usize {
-        cells[c] = leads(arena, bytes, low, high, c / 16, c % 16);
+    pub(crate) fn moves_between(&self, low: u8, high: u8) -> Relation
+        ensures { let g = A.game self.now.arena.now in HasMoves g (plan_of g.size self.now.bytes.now) low high result }
+    {
+        Relation::of(|u, w| self.leads(low, high, u, w))
     }
-    Relation { cells }
-}
-
-// Whether a following move from v ends unclaimed.
-pub fn steps_out<A: Arena>(arena: &A, bytes: &[u8], v: usize) -> bool
-    requires formed { WellFormed (A.game arena.now) bytes.now }
-    requires there { v < (A.game arena.now).size }
-    ensures { Tells result (StepsOut (A.game arena.now) (plan_of (A.game arena.now).size bytes.now) v) }
-{
-    let Some(count) = arena.arc_count(v) else {
-        unreachable()
-    };
-    for i in 0..count {
-        if leads_out(bytes, followed_arc(arena, bytes, v, i)) {
-            return true;
-        }
-    }
-    false
 }

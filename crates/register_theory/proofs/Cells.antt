@@ -3,22 +3,21 @@ use Rattle.std.proofs.Common.{◌≡◌, ℕ, zero, suc, ◌+◌, ◌-◌, ◌*�
 use native.Mathlib.Nat.{mul-add-div_right, mul-add-mod_self_right, div-eq_of_lt}
 use Rattle.std.specs.List.{slice_get}
 use Rattle.std.proofs.lemmas.List.{length_push}
-use Rattle.std.proofs.lemmas.Option.{slice_get-get_or}
+use Rattle.std.proofs.lemmas.Option.{slice_get-get_or, slice_get_within, none-some, same_Some}
 use Rattle.std.proofs.lemmas.Bool.{cases_eq, cond-true, cond-false, lt-ltb, le-ltb}
 use Rattle.game.specs.declared.Player.TheVariants.{Even}
 use Rattle.game.specs.declared.Arc.{Arc}
 use Rattle.game.specs.Game.{Game, Lawful, arc_at}
-use Rattle.game.proofs.Arcs.{none_is_not_some, some_same}
 use Rattle.rows.specs.Rows.{IsRow, rows}
 use Rattle.rows.specs.Registers.{updated}
-use Rattle.rows.proofs.Members.{nth_there, nth_left, nth_right, nth_joined}
+use Rattle.rows.proofs.Members.{nth_left, nth_right, nth_joined}
 use Rattle.rows.proofs.Numbering.{rows_numbered_lem, listed_row, place_is}
 use Rattle.rows.proofs.Moving.{updated_row, length_updated, reset_row, length_reset}
 use Rattle.registers.specs.Layer.{arcs_below, first_arc, arc_total, stands, row_count, row_number, updates, reset_arc, resets_to, choices, no_arc, layer_arcs, layer, registers}
 use Rattle.register_theory.specs.Doubling.{State, chosen, toll}
 
 pub get_d_from_nth : {X : Type 0} (xs : List X) (i : ℕ) (x d : X) → slice_get xs i ≡ Some x → get_or xs i d ≡ x
-get_d_from_nth xs i x d e = some_same (get_or xs i d) x (sym (slice_get-get_or xs i d (nth_there xs i x e)) ∙ e)
+get_d_from_nth xs i x d e = same_Some (get_or xs i d) x (sym (slice_get-get_or xs i d (slice_get_within xs i x e)) ∙ e)
 
 -- the number of position at with a row
 abbrev pub cell : ℕ → Game → ℕ → List ℕ → ℕ
@@ -50,7 +49,7 @@ module _ (r : ℕ) (g : Game) where
     row_at_number = rows_numbered_lem.1 r g.top row is_row whole
 
     pub number_below : row_number r g row < row_count r g
-    number_below = nth_there (rows r g.top) (row_number r g row) row row_at_number
+    number_below = slice_get_within (rows r g.top) (row_number r g row) row row_at_number
 
     pub cell_at : (at : ℕ) → cell r g at row / row_count r g ≡ at
     cell_at at =
@@ -90,17 +89,17 @@ module _ (r : ℕ) (g : Game) where
   update_arc_lem row e a = record { target = (g.size + e) * row_count r g + row_number r g (updated a.priority row); priority = 0 }
 
   pub nth_updates : (row : List ℕ) (e : ℕ) (arcs : List Arc) (i m : ℕ) (a : Arc) → m ≡ e + i → slice_get arcs i ≡ Some a → slice_get (updates r g row e arcs) i ≡ Some (update_arc_lem row m a)
-  nth_updates row e [] i m a at there = absurd (none_is_not_some a there)
+  nth_updates row e [] i m a at there = absurd (none-some a there)
   nth_updates row e (b ∷ arcs) zero m a at there =
       let same : m ≡ e = omega arith in
-      ap₂ (λ x c. Some (update_arc_lem row x c)) (sym same) (some_same b a there)
+      ap₂ (λ x c. Some (update_arc_lem row x c)) (sym same) (same_Some b a there)
   nth_updates row e (b ∷ arcs) (suc i) m a at there = nth_updates row (suc e) arcs i m a (omega arith) there
 
   pub nth_updates_back : (row : List ℕ) (e : ℕ) (arcs : List Arc) (i : ℕ) (b : Arc) → slice_get (updates r g row e arcs) i ≡ Some b → (a : Arc) × (slice_get arcs i ≡ Some a) × (b ≡ update_arc_lem row (e + i) a)
-  nth_updates_back row e [] i b there = absurd (none_is_not_some b there)
+  nth_updates_back row e [] i b there = absurd (none-some b there)
   nth_updates_back row e (a ∷ arcs) zero b there =
       let same : e + 0 ≡ e = omega arith in
-      (a, refl, sym (some_same (update_arc_lem row e a) b there) ∙ ap (λ x. update_arc_lem row x a) (sym same))
+      (a, refl, sym (same_Some (update_arc_lem row e a) b there) ∙ ap (λ x. update_arc_lem row x a) (sym same))
   nth_updates_back row e (a ∷ arcs) (suc i) b there =
       let found = nth_updates_back row (suc e) arcs i b there in
       let same : suc e + i ≡ e + suc i = omega arith in
@@ -133,9 +132,9 @@ module _ (r : ℕ) (g : Game) where
   pub nth_choices_back : (row : List ℕ) (a : Arc) (j : ℕ) (b : Arc) → slice_get (choices r g row a) j ≡ Some b → (j ≤ r) × (b ≡ choice_arc row a j)
   nth_choices_back row a j b there =
       let n = length_resets row a r in
-      let l = nth_there (choices r g row a) j b there in
+      let l = slice_get_within (choices r g row a) j b there in
       let h : j ≤ r = omega arith in
-      (h, some_same b (choice_arc row a j) (sym there ∙ nth_choices row a j h))
+      (h, same_Some b (choice_arc row a j) (sym there ∙ nth_choices row a j h))
 
   -- arc number i of v among all arcs
   pub arc_numbered : (m v i : ℕ) (a : Arc) → v < m → slice_get (g.arcs v) i ≡ Some a → slice_get (arcs_below g m) (first_arc g v + i) ≡ Some a
@@ -147,7 +146,7 @@ module _ (r : ℕ) (g : Game) where
 
   -- each of all arcs is an arc of a position
   pub arc_found : (m e : ℕ) (a : Arc) → slice_get (arcs_below g m) e ≡ Some a → (v i : ℕ) × (v < m) × (slice_get (g.arcs v) i ≡ Some a)
-  arc_found zero e a there = absurd (none_is_not_some a there)
+  arc_found zero e a there = absurd (none-some a there)
   arc_found (suc m) e a there = elim (nth_joined (arcs_below g m) (g.arcs m) e a there) [
     | inl left ↦ let found = arc_found m e a left in (found.0, found.1, let l = found.2 in omega arith, found.3)
     | inr right ↦ (m, right.0, omega arith, right.2)
@@ -168,7 +167,7 @@ module _ (r : ℕ) (g : Game) where
         ap (λ b. choices r g row b) (ap (λ x. get_or (arcs_below g g.size) x no_arc) back ∙ get_d_from_nth (arcs_below g g.size) e a no_arc (arc_numbered g.size v i a h there))
 
     pub arc_inside : g.size + (first_arc g v + i) < g.size + arc_total g
-    arc_inside = let l = nth_there (arcs_below g g.size) (first_arc g v + i) a (arc_numbered g.size v i a h there) in omega arith
+    arc_inside = let l = slice_get_within (arcs_below g g.size) (first_arc g v + i) a (arc_numbered g.size v i a h there) in omega arith
 
   pub mover_at_position : (v : ℕ) → v < g.size → cond (ltb v g.size) (g.mover v) Even ≡ g.mover v
   mover_at_position v h = cond-true (ltb v g.size) (g.mover v) Even (lt-ltb v g.size h)

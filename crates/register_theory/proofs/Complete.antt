@@ -17,7 +17,7 @@ use Rattle.registers.specs.Layer.{stands}
 use Rattle.register_theory.specs.Doubling.{chosen}
 use Rattle.register_theory.specs.Kept.{WonIsKept}
 use Rattle.register_theory.specs.Groups.{SmallGroups}
-use Rattle.register_theory.proofs.Climbing.{climb_value}
+use Rattle.heights.proofs.Climb.{climb_below}
 use Rattle.register_theory.proofs.Contents.{contents, cost, cost_at_most_one, chosen_contents, toll_is}
 use Rattle.register_theory.proofs.Doubly.{Affords, Doubly}
 use Rattle.register_theory.proofs.Sound.{DoublyKept, stands_parts}
@@ -36,7 +36,7 @@ climb_digits n r j c d e low fits cheap above here =
     let under = digits_below n (r + 1) d (λ i l. (low i l).0) in
     let half : q / 2 ≡ j = omega arith in
     let rest : q % 2 ≡ c = omega arith in
-    let value = climb_value n r x q under ∙ ap₂ (λ a b. (x / n ^ a + b) * n ^ a) half rest in
+    let value = climb_below n r x q under ∙ ap₂ (λ a b. (x / n ^ a + b) * n ^ a) half rest in
     let l = lifted_at_most n (r + 1) j c d e low (omega arith) above here in
     omega arith
 

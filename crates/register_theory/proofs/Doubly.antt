@@ -16,7 +16,7 @@ use Rattle.heights.specs.Heights.{asked, due, due_for, least, Closed}
 use Rattle.determinacy.proofs.Players.{cases_player}
 use Rattle.registers.specs.Layer.{no_arc, arcs_below, first_arc, arc_total, stands, row_count, updates, choices, layer, registers}
 use Rattle.register_theory.specs.Doubling.{State, chosen, toll, StepsAreMoves, MovesAreSteps}
-use Rattle.register_theory.proofs.Climbing.{climb_zero}
+use Rattle.heights.proofs.Climb.{climb_by_zero}
 use Rattle.register_theory.proofs.Extremes.{least_within, least_at_most, least_attained, greatest_at_least, greatest_at_most}
 use Rattle.register_theory.proofs.Cells.{cell, stands_layer, updated_state, chosen_state, chosen_row, cell_at, cell_row, row_numbered, number_of, arc_found, arcs_past_positions, cell_arcs, cell_mover, cell_inside, arcs_at_position, arcs_at_arc, arc_inside, mover_at_position, mover_past_positions, nth_updates, nth_updates_back, update_arc_lem, nth_choices, nth_choices_back, choice_arc}
 
@@ -88,7 +88,7 @@ module _ (r : ℕ) (g : Game) (lawful : Lawful g) where
     affords v row state low i a is_arc under =
         let x = behind h v row state i a is_arc in
         let inside = behind_inside h v row state i a is_arc in
-        let e = climb_zero n r (h x) (closed.bounded x inside) in
+        let e = climb_by_zero n r (h x) (closed.bounded x inside) in
         affords_behind h v row state i a is_arc (closed.enough x inside) (omega arith) (h (cell r g v row)) (omega arith)
 
     doubly_from_layer : Doubly g r (λ v row. h (cell r g v row))
@@ -152,7 +152,7 @@ module _ (r : ℕ) (g : Game) (lawful : Lawful g) where
         asked_first =
             let e = height_behind in
             let h = least_within (asked n r at_state) (lost n r) (choices r g (updated a.priority row) a) in
-            climb_zero n r (height (behind height v row state i a is_arc)) (omega arith)
+            climb_by_zero n r (height (behind height v row state i a is_arc)) (omega arith)
 
         -- where a choice is afforded, the arc asks for no more than the height
         asked_at_most : Affords g r H v row a → asked n r height (update_arc_lem r g row (first_arc g v + i) a) ≤ H v row

@@ -2,7 +2,7 @@
 use Rattle.std.proofs.Common.{◌≡◌, ℕ, zero, suc, ◌<◌, ◌≤◌, List, [], ◌∷◌, map, Some, refl, inl, inr, arith}
 use Rattle.std.specs.List.{slice_get}
 use Rattle.std.proofs.lemmas.Bool.{cases_lt}
-use Rattle.game.proofs.Arcs.{none_is_not_some, some_same}
+use Rattle.std.proofs.lemmas.Option.{none-some, same_Some}
 use Rattle.heights.specs.Heights.{least, greatest}
 
 module _ {X : Type 0} (f : X → ℕ) where
@@ -11,8 +11,8 @@ module _ {X : Type 0} (f : X → ℕ) where
   least_within limit (x ∷ xs) = omega (arith, least_within limit xs)
 
   pub least_at_most : (limit : ℕ) (xs : List X) (i : ℕ) (x : X) → slice_get xs i ≡ Some x → least limit (map f xs) ≤ f x
-  least_at_most limit [] i x e = absurd (none_is_not_some x e)
-  least_at_most limit (y ∷ xs) zero x e = rw (some_same y x e) (omega arith)
+  least_at_most limit [] i x e = absurd (none-some x e)
+  least_at_most limit (y ∷ xs) zero x e = rw (same_Some y x e) (omega arith)
   least_at_most limit (y ∷ xs) (suc i) x e = let h = least_at_most limit xs i x e in omega arith
 
   -- a least below the limit is that of an element
@@ -26,8 +26,8 @@ module _ {X : Type 0} (f : X → ℕ) where
   ]
 
   pub greatest_at_least : (xs : List X) (i : ℕ) (x : X) → slice_get xs i ≡ Some x → f x ≤ greatest (map f xs)
-  greatest_at_least [] i x e = absurd (none_is_not_some x e)
-  greatest_at_least (y ∷ xs) zero x e = rw (some_same y x e) (omega arith)
+  greatest_at_least [] i x e = absurd (none-some x e)
+  greatest_at_least (y ∷ xs) zero x e = rw (same_Some y x e) (omega arith)
   greatest_at_least (y ∷ xs) (suc i) x e = let h = greatest_at_least xs i x e in omega arith
 
   pub greatest_at_most : (b : ℕ) (xs : List X) → ((i : ℕ) (x : X) → slice_get xs i ≡ Some x → f x ≤ b) → greatest (map f xs) ≤ b

@@ -2,10 +2,10 @@
 use Rattle.std.proofs.Common.{◌≡◌, ℕ, zero, suc, ◌^◌, ◌<◌, ◌≤◌, Bool, true, ◌&&◌, eqb, List, [], ◌∷◌, map, Some, Option, refl, ap, inl, inr, arith}
 use Rattle.std.specs.List.{slice_get}
 use Rattle.std.proofs.lemmas.Bool.{and_parts, and_from, or_cases, or_left, or_right, eqb-true, eq-eqb, both_ways}
+use Rattle.std.proofs.lemmas.Option.{none-some, same_Some}
 use Rattle.game.specs.declared.Arc.{Arc}
 use Rattle.game.specs.Game.{Game}
 use Rattle.game.specs.Layers.{swapped, raised, restricted, entry_at, held}
-use Rattle.game.proofs.Arcs.{none_is_not_some, some_same}
 use Rattle.game.proofs.Layers.{restricted_cases}
 use Rattle.toolkit.specs.Finite.{count}
 use Rattle.toolkit.specs.Reachability.{reach}
@@ -15,8 +15,8 @@ use Rattle.determinacy.proofs.Swap.{swapped_size}
 use Rattle.register_theory.specs.Groups.{leads_to, in_group, SmallGroups}
 
 pub leads_from_nth : (arcs : List Arc) (i : ℕ) (a : Arc) → slice_get arcs i ≡ Some a → leads_to arcs a.target ≡ true
-leads_from_nth [] i a e = absurd (none_is_not_some a e)
-leads_from_nth (b ∷ arcs) zero a e = or_left (eqb b.target a.target) (leads_to arcs a.target) (eq-eqb b.target a.target (ap (λ (c : Arc). c.target) (some_same b a e)))
+leads_from_nth [] i a e = absurd (none-some a e)
+leads_from_nth (b ∷ arcs) zero a e = or_left (eqb b.target a.target) (leads_to arcs a.target) (eq-eqb b.target a.target (ap (λ (c : Arc). c.target) (same_Some b a e)))
 leads_from_nth (b ∷ arcs) (suc i) a e = or_right (eqb b.target a.target) (leads_to arcs a.target) (leads_from_nth arcs i a e)
 
 -- fewer edges make no group larger

@@ -8,7 +8,7 @@ use Rattle.game.specs.declared.Arc.{Arc}
 use Rattle.game.specs.Game.{Game}
 use Rattle.game.specs.Layers.{swapped, raised, restricted, entry_at, held}
 use Rattle.game.proofs.Layers.{restricted_cases}
-use Rattle.rows.proofs.Members.{nth_there}
+use Rattle.std.proofs.lemmas.Option.{slice_get_within}
 use Rattle.registers.specs.Layer.{arcs_below, arc_total, stands}
 use Rattle.register_theory.specs.First.{solved_for, Solvable}
 use Rattle.register_theory.proofs.Groups.{held_small}
@@ -17,7 +17,7 @@ use Rattle.register_theory.proofs.Groups.{held_small}
 pub restricted_fewer : (o : Option ℕ) (xs : List Arc) → length (restricted o xs) ≤ length xs
 restricted_fewer o xs = elim (restricted_cases o xs) [
   | inl same ↦ rw same (omega arith)
-  | inr (i, a, _, there, one) ↦ let l = nth_there xs i a there in rw one (omega arith)
+  | inr (i, a, _, there, one) ↦ let l = slice_get_within xs i a there in rw one (omega arith)
 ]
 
 pub fewer_arcs : (g h : Game) → ((v : ℕ) → length (h.arcs v) ≤ length (g.arcs v)) → (m : ℕ) → length (arcs_below h m) ≤ length (arcs_below g m)

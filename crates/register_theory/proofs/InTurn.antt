@@ -3,12 +3,12 @@ use Rattle.std.proofs.Common.{◌≡◌, ℕ, zero, suc, ◌<◌, ◌≤◌, Boo
 use Rattle.std.specs.List.{range_with_len}
 use Rattle.std.proofs.lemmas.List.FromFn.{get_or-map-range_with_len}
 use Rattle.std.proofs.lemmas.Bool.{cases_Bool, cases_eq, cases_lt, both_ways, and_parts, and_from, cond-true, cond-false, ltb-true, lt-ltb, le-ltb}
+use Rattle.std.proofs.lemmas.Option.{none-some, same_Some}
 use Rattle.game.specs.declared.Player.{Player}
 use Rattle.game.specs.declared.Arc.{Arc}
 use Rattle.game.specs.Game.{Game, Lawful, rival}
 use Rattle.game.specs.Layers.{entry_at, held}
 use Rattle.game.specs.Plans.{Plan, Winnable}
-use Rattle.game.proofs.Arcs.{none_is_not_some, some_same}
 use Rattle.game.proofs.Layers.{held_lawful}
 use Rattle.toolkit.specs.Finite.{put}
 use Rattle.toolkit.proofs.Search.{seek, seek_least}
@@ -25,10 +25,10 @@ held_number_lem : (o : Option ℕ) (xs : List Arc) (k : ℕ) → o ≡ Some k �
 held_number_lem o xs k e h = ap (λ x. held_number x xs) e ∙ cond-true (ltb k (length xs)) (Some k) None (lt-ltb k (length xs) h)
 
 pub held_entry : (o : Option ℕ) (xs : List Arc) (k : ℕ) → held_number o xs ≡ Some k → o ≡ Some k
-held_entry None xs k e = absurd (none_is_not_some k e)
+held_entry None xs k e = absurd (none-some k e)
 held_entry (Some i) xs k e = elim (cases_lt i (length xs)) [
   | inl h ↦ sym (cond-true (ltb i (length xs)) (Some i) None (lt-ltb i (length xs) h)) ∙ e
-  | inr h ↦ absurd (none_is_not_some k (sym (cond-false (ltb i (length xs)) (Some i) None (le-ltb i (length xs) h)) ∙ e))
+  | inr h ↦ absurd (none-some k (sym (cond-false (ltb i (length xs)) (Some i) None (le-ltb i (length xs) h)) ∙ e))
 ]
 
 -- Entries that hold the choices of s below v, and i at v.
@@ -42,8 +42,8 @@ module _ (g : Game) (player : Player) (s : Plan) (is_players : s.player ≡ play
       let entry = held_entry (entry_at entries u) (g.arcs u) k e in
       let (low, own) = holds.no_others u k entry in
       elim (cases_eq u v) [
-        | inl here ↦ ap t.choice here ∙ at ∙ some_same i k (sym holds.here ∙ sym (ap (λ x. entry_at entries x) here) ∙ entry)
-        | inr apart ↦ same u (omega arith) own ∙ some_same (s.choice u) k (sym (holds.before u (omega arith) own) ∙ entry)
+        | inl here ↦ ap t.choice here ∙ at ∙ same_Some i k (sym holds.here ∙ sym (ap (λ x. entry_at entries x) here) ∙ entry)
+        | inr apart ↦ same u (omega arith) own ∙ same_Some (s.choice u) k (sym (holds.before u (omega arith) own) ∙ entry)
       ]
 
   -- and one that wins the region and agrees with them has those choices
@@ -134,13 +134,13 @@ module _ (g : Game) (player : Player) (lawful : Lawful g) (few : g.size ≤ 16) 
   entry_says : (c : ℕ → ℕ) (v i u k : ℕ) → entry_at (entries_to c v i) u ≡ Some k → (u ≤ v) × Mine u
   unfolding entries_to entry_to
   entry_says c v i u k e = elim (cases_lt u 16) [
-    | inr past ↦ absurd (none_is_not_some k (sym (cond-false (ltb u 16) (get_or (entries_to c v i) u None) None (le-ltb u 16 past)) ∙ e))
+    | inr past ↦ absurd (none-some k (sym (cond-false (ltb u 16) (get_or (entries_to c v i) u None) None (le-ltb u 16 past)) ∙ e))
     | inl low ↦
         let value =
         cond-true (ltb u 16) (get_or (entries_to c v i) u None) None (lt-ltb u 16 low) ∙
         get_or-map-range_with_len (entry_to c v i) 0 16 u u None low (zero-add u) in
         elim (cases_Bool (is_mine u && ltb u (suc v))) [
-          | inr out ↦ absurd (none_is_not_some k (sym (value ∙ cond-false (is_mine u && ltb u (suc v)) (Some (put c v i u)) None out) ∙ e))
+          | inr out ↦ absurd (none-some k (sym (value ∙ cond-false (is_mine u && ltb u (suc v)) (Some (put c v i u)) None out) ∙ e))
           | inl there ↦
               let parts = and_parts (is_mine u) (ltb u (suc v)) there in
               let l = ltb-true u (suc v) parts.1 in

@@ -17,7 +17,8 @@ use Rattle.registers.specs.Layer.{stands, row_count, registers}
 use Rattle.register_theory.specs.Doubling.{State, chosen, toll}
 use Rattle.register_theory.specs.Kept.{Kept, StillKept, KeptByLeast}
 use Rattle.register_theory.proofs.Exist.{heights_exist}
-use Rattle.register_theory.proofs.Climbing.{climb_value, climbed_from_kept}
+use Rattle.heights.proofs.Climb.{climb_below}
+use Rattle.register_theory.proofs.Climbing.{climbed_from_kept}
 use Rattle.register_theory.proofs.Cells.{cell, cell_inside, stands_layer}
 use Rattle.register_theory.proofs.Doubly.{Affords, Doubly, closed_from_doubly}
 use Rattle.register_theory.proofs.Sound.{zeros_state, zeros_cell, DoublyKept, doubly_kept}
@@ -111,8 +112,8 @@ module _ (g : Game) (r s : ℕ) (fewer : r ≤ s) (H : ℕ → List ℕ → ℕ)
           let same : H w (lower (chosen j row')) ≡ H w last = ap (λ xs. H w xs) next in
           let there : wider w (chosen j row') ≡ H w last = wider_kept w (chosen j row') (omega arith) ∙ same in
           let grows = lost_grows v state.0 in
-          let one = ap₂ (λ x y. climb n s x y) there price ∙ climb_value n s (H w last) q (omega arith) in
-          let two = climb_value n r (H w last) q kept in
+          let one = ap₂ (λ x y. climb n s x y) there price ∙ climb_below n s (H w last) q (omega arith) in
+          let two = climb_below n r (H w last) q kept in
           let here = wider_kept v row low in
           (j, omega arith, omega arith)
 

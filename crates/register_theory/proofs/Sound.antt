@@ -25,10 +25,11 @@ use Rattle.registers.specs.Layer.{arc_total, stands, row_count, layer}
 use Rattle.register_theory.specs.Doubling.{State, chosen, toll, DoubleStep, DoubleWalk}
 use Rattle.register_theory.specs.Doubling.DoubleWalk.{stay as stay_double, step as step_double}
 use Rattle.register_theory.specs.Kept.{Kept, KeptIsWon, KeptSwappedIsWon, NeverBoth}
-use Rattle.register_theory.proofs.Climbing.{climbing_even, climbed_from_kept}
+use Rattle.heights.proofs.Ladder.{counters_sound}
+use Rattle.register_theory.proofs.Climbing.{base_positive, climbed_from_kept}
 use Rattle.register_theory.proofs.Cells.{cell, cell_at, cell_row, cell_inside, chosen_state}
 use Rattle.register_theory.proofs.Doubly.{Affords, Doubly, doubly_from_closed}
-use Rattle.register_theory.proofs.Contents.{zeros_number}
+use Rattle.register_theory.proofs.Contents.{contents, cost_at_most_one, toll_is, zeros_number}
 use Rattle.register_theory.proofs.EvenBelow.{even_below}
 
 -- Moves that lead on from each position of a kind to another, all of them below n, make a closed walk.
@@ -145,11 +146,23 @@ module _ (g : Game) (lawful : Lawful g) (r : ℕ) (H : ℕ → List ℕ → ℕ)
   walks_more : {x y q : ℕ} {qs : List ℕ} → Walk Both x y (q ∷ qs) → (p : ℕ) × (ps : List ℕ) × (length (row_of x) ≡ r) × DoubleWalk g r (place x) (row_of x) (place y) (row_of y) (p ∷ ps) (q ∷ qs) × Walk (Follows g t) (place x) (place y) (p ∷ ps)
   walks_more (step m walk) = let more = walks walk in (m.below, more.0, m.whole, step_double m.double more.1, step m.follows more.2)
 
+  -- the price of a step is low
+  low_price : {x y q : ℕ} → Both x y q → q ≤ 2 * r + 1
+  low_price {x} m =
+      let price = toll_is r m.below (row_of x) m.whole m.double.choice m.double.a_choice in
+      let paid = m.double.price in
+      let few = m.double.a_choice in
+      let cheap = cost_at_most_one (contents (row_of x)) m.below m.double.choice in
+      omega arith
+
+  some_positions : {x y q : ℕ} {qs : List ℕ} → Walk Both x y (q ∷ qs) → 1 ≤ g.size
+  some_positions (step {u = u} m walk) = base_positive g.size r (height_of u) m.low
+
   -- the heights say that such a closed walk is even above, the plan says that it is odd below
   no_closed_both : (x q : ℕ) × (qs : List ℕ) × Walk Both x x (q ∷ qs) → ⊥
   no_closed_both (x, q, qs, walk) =
       let (p, ps, whole, double, follows) = walks_more walk in
-      let above = climbing_even g.size r height_of (λ a b c m. (m.climbs, m.low)) walk in
+      let above = counters_sound g.size r (some_positions walk) height_of (λ a b c m. (low_price m, m.climbs, m.low)) walk in
       let below = even_below g r (place x) p q (row_of x) ps qs whole double above in
       let odd_below = wins.closed_walks (place x) p ps follows in
       parities_differ Even (sym below ∙ odd_below ∙ ap parity odd)

@@ -1,5 +1,5 @@
 -- The layer over a game is the layer over its copy: it reads no position that is not there.
-use Rattle.std.proofs.Common.{◌≡◌, ℕ, zero, suc, ◌+◌, ◌-◌, ◌*◌, ◌/◌, ◌%◌, ◌<◌, ◌≤◌, cond, ◌&&◌, ltb, leb, List, [], ◌∷◌, ◌++◌, length, get_or, Some, Option, sym, refl, ap, ◌∙◌, inl, inr, arith}
+use Rattle.std.proofs.Common.{◌≡◌, ℕ, zero, suc, ◌+◌, ◌-◌, ◌*◌, ◌/◌, ◌%◌, ◌<◌, ◌≤◌, cond, ◌&&◌, ltb, leb, List, [], ◌∷◌, ◌++◌, length, get_or, Some, sym, refl, ap, ◌∙◌, inl, inr, arith}
 use Rattle.std.proofs.lemmas.Bool.{cases_lt, cond-true, cond-false, lt-ltb, le-ltb, and_from, le-leb}
 use Rattle.game.specs.declared.Player.{Player}
 use Rattle.game.specs.declared.Player.TheVariants.{Even}
@@ -71,9 +71,8 @@ layer_alike r g h a =
     layer_same r g.size g.top g.mover h.mover g.arcs h.arcs a.same_mover a.same_arcs
 
 -- the registers over a game that was copied
-pub registers_stand : (r q : ℕ) (g : Game) (o : Option Copied) (s : Copied) → q ≡ r → 1 ≤ r → r ≤ 5 → o ≡ Some s → Taken g o → layer q (below_of s) ≡ registers r g
-registers_stand r q g o s e some few is taken =
-    let (fit, alike) : Taken g (Some s) = rw (is) at taken in
+pub registers_stand : (r q : ℕ) (g : Game) (s : Copied) → q ≡ r → 1 ≤ r → r ≤ 5 → Taken g (Some s) → layer q (below_of s) ≡ registers r g
+registers_stand r q g s e some few (fit, alike) =
     ap (λ n. layer n (below_of s)) e ∙
     layer_alike r g (below_of s) alike ∙
     sym (cond-true (stands r g) (layer r g) no_positions (and_from (leb 1 r && leb r 5) (fits g) (and_from (leb 1 r) (leb r 5) (le-leb 1 r some) (le-leb r 5 few)) fit))

@@ -1,6 +1,6 @@
-pub mod Rows
-pub mod Lists
-pub mod Replies
+pub mod FromFn
 pub mod Reading
+pub mod Rows
+pub mod Replies
 pub mod Taking
 pub mod Alike

@@ -1,99 +1,96 @@
 -- What the row with a given number is, and the numbers of the rows that moves lead to.
-use Rattle.std.proofs.Common.{◌≡◌, ℕ, ◌+◌, ◌*◌, ◌^◌, ◌<◌, ◌≤◌, true, false, cond, eqb, ltb, leb, List, length, Some, None, sym, ap, ◌∙◌, arith}
+use Rattle.std.proofs.Common.{◌≡◌, ◌≢◌, ℕ, zero, suc, ◌+◌, ◌^◌, ◌<◌, ◌≤◌, true, cond, leb, ltb, List, length, Some, None, sym, ap, ◌∙◌, rules, arith}
 use Rattle.std.specs.List.{slice_get}
-use Rattle.std.proofs.lemmas.Nat.{mul-le}
-use Rattle.std.proofs.lemmas.Bool.{and_from, le-leb, lt-ltb, ne_eqb, cond-true, cond-false}
-use Rattle.game.proofs.Arcs.{none_is_not_some, some_same}
-use Rattle.rows.specs.declared.row.Row.{Row}
+use Rattle.std.proofs.lemmas.Bool.{and_from, and_parts, and_right, leb-true, le-leb, lt-leb, lt-ltb, cond-true, cond-false}
+use Rattle.std.proofs.lemmas.Option.{cond_some, none-some, same_Some, slice_get_within}
 use Rattle.rows.specs.Choose.{choose}
 use Rattle.rows.specs.Rows.{IsRow, rows, place}
 use Rattle.rows.specs.Registers.{updated, reset, reset_priority}
-use Rattle.rows.specs.Views.{contents_of, found, some_registers, in_range, is_number, has_register}
-use Rattle.rows.proofs.Numbering.{rows_counted_lem}
+use Rattle.rows.specs.Views.{some_registers, in_range, is_number, has_register}
+use Rattle.rows.proofs.Numbering.{rows_counted_lem, rows_numbered_lem}
 use Rattle.rows.proofs.Moving.{rows_kept_lem}
 use Rattle.rows.proofs.Held.{registers_true}
-use Rattle.registers.specs.declared.step.Step.{Step}
-use Rattle.registers.specs.Tables.{row_at, updated_at, step_at}
-use Rattle.registers.specs.Arcs.{few_rows, row_there, row_numbered, updated_number, reset_number}
+use Rattle.registers.specs.declared.shape.Shape.{Shape}
+use Rattle.registers.specs.Arcs.{few_choices, row_there, row_numbered}
+use Rattle.registers.specs.Tables.{row_at, updated_at, step_in, step_at}
 
-small_range : (r top : ℕ) → 1 ≤ r → r ≤ 5 → top ≤ 9 → in_range r top ≡ true
-small_range r top some few low = and_from (some_registers r) (leb top 10) (registers_true r some few) (le-leb top 10 (omega arith))
+-- a row's number is small, whatever the top
+pub number_small : (xs : List ℕ) → length xs ≤ 5 → IsRow 10 xs → place xs (rows (length xs) 10) < 2 ^ 16
+number_small xs few is =
+    let r : ℕ = length xs in
+    let there = slice_get_within (rows r 10) (place xs (rows r 10)) xs (rows_numbered_lem.1 r 10 xs is (search rules)) in
+    let counted = rows_counted_lem r 10 in
+    let ways = few_choices r few in
+    omega arith
 
-module _ {r top k : ℕ} (some : 1 ≤ r) (few : r ≤ 5) (low : top ≤ 9) (there : k < length (rows r top)) where
-  numbered : is_number r top k ≡ true
-  numbered =
-      let n = rows_counted_lem r top in
-      and_from (in_range r top) (ltb k (choose (top + r) r)) (small_range r top some few low) (lt-ltb k (choose (top + r) r) (omega arith))
+-- the number of a row updated, and a step that resets a register
+pub number_updated : (row next : List ℕ) (p top n : ℕ) → next ≡ updated p row → IsRow top row → p ≤ top →
+    ((t : ℕ) → IsRow t next → n ≡ place next (rows (length next) t)) → n ≡ place (updated p row) (rows (length row) top)
+number_updated row next p top n e is low told =
+    let (kept, long) = rows_kept_lem.0 top p row is low in
+    told top (rw e kept) ∙
+    ap (λ ys. place ys (rows (length ys) top)) e ∙
+    ap (λ m. place (updated p row) (rows m top)) long
 
-  -- a look-up by number finds the row
-  pub found_row : (row : Row) → found (Some row) ≡ cond (is_number r top k) (slice_get (rows r top) k) None → contents_of row ≡ row_at r top k
-  found_row row e =
-      some_same (contents_of row) (row_at r top k) (e ∙ cond-true (is_number r top k) (slice_get (rows r top) k) None numbered ∙ row_there r top k there)
+pub step_made : (row next : List ℕ) (j top n q : ℕ) → j ≢ 0 → Some next ≡ cond (has_register j row) (Some (reset j row)) None → IsRow top row →
+    ((t : ℕ) → IsRow t next → n ≡ place next (rows (length next) t)) → Some q ≡ cond (has_register j row) (Some (reset_priority j row)) None →
+    Some (record { row = n; priority = q }) ≡ step_in (rows (length row) top) row j
+step_made row next zero top n q some e is told f = absurd (some (search rules))
+step_made row next (suc j) top n q some e is told f =
+    let (has, same) = cond_some (has_register (suc j) row) (reset (suc j) row) next (sym e) in
+    let (first, last) = and_parts (leb 1 (suc j)) (leb (suc j) (length row)) has in
+    let (kept, long) = rows_kept_lem.1 top (suc j) row is (leb-true 1 (suc j) first) (leb-true (suc j) (length row) last) in
+    let number : n ≡ place (reset (suc j) row) (rows (length row) top) =
+    told top (rw (← same) kept) ∙ ap (λ ys. place ys (rows (length ys) top)) (sym same) ∙ ap (λ m. place (reset (suc j) row) (rows m top)) long in
+    let priority = same_Some q (reset_priority (suc j) row) (f ∙ cond-true (has_register (suc j) row) (Some (reset_priority (suc j) row)) None has) in
+    ap (λ m. Some (record { row = m; priority = q })) number ∙
+    ap (λ m. Some (record { row = place (reset (suc j) row) (rows (length row) top); priority = m })) priority ∙
+    sym (cond-true (has_register (suc j) row) _ None has)
 
-  pub not_missing : None ≡ cond (is_number r top k) (slice_get (rows r top) k) None → ⊥
-  not_missing e =
-      none_is_not_some (row_at r top k) (e ∙ cond-true (is_number r top k) (slice_get (rows r top) k) None numbered ∙ row_there r top k there)
+-- a row of no more than five registers has no step above
+pub step_missing : (listed : List (List ℕ)) (row : List ℕ) (j : ℕ) → length row < j → step_in listed row j ≡ None
+step_missing listed row zero h = absurd (omega arith)
+step_missing listed row (suc j) h =
+    cond-false (has_register (suc j) row) _ None (and_right (leb 1 (suc j)) (leb (suc j) (length row)) (lt-leb (suc j) (length row) h))
 
-  pub number_fits : k < 2 ^ 16
-  number_fits = let h = few_rows r top few low in omega arith
+-- the rows of a shape
+module _ (s : Shape) where
+  in_reach : in_range s.registers s.top ≡ true
+  in_reach =
+      let low = s.low in
+      and_from (some_registers s.registers) (leb s.top 10) (registers_true s.registers s.some s.few) (le-leb s.top 10 (omega arith))
 
-  module _ {xs : List ℕ} (is : xs ≡ row_at r top k) where
-    -- the row updated
-    pub updated_fits : (p : ℕ) → p ≤ top → IsRow top (updated p xs)
-    updated_fits p h = rw (is) (rows_kept_lem.0 top p (row_at r top k) (row_numbered r top k there).0 h).0
+  pub rows_found : (n : ℕ) → Some n ≡ cond (in_range s.registers s.top) (Some (choose (s.top + s.registers) s.registers)) None → n ≡ length (rows s.registers s.top)
+  rows_found n e =
+      let (_, same) = cond_some (in_range s.registers s.top) (choose (s.top + s.registers) s.registers) n (sym e) in
+      sym same ∙ sym (rows_counted_lem s.registers s.top)
 
-    pub updated_is : (p : ℕ) → p ≤ top → place (updated p xs) (rows (length (updated p xs)) top) ≡ updated_at r top k p
-    updated_is p h =
-        let n = (rows_kept_lem.0 top p (row_at r top k) (row_numbered r top k there).0 h).1 ∙ (row_numbered r top k there).1 in
-        ap (λ ys. place (updated p ys) (rows (length (updated p ys)) top)) is ∙
-        ap (λ m. place (updated p (row_at r top k)) (rows m top)) n
+  module _ {k : ℕ} (there : k < length (rows s.registers s.top)) where
+    looked_up : cond (is_number s.registers s.top k) (slice_get (rows s.registers s.top) k) None ≡ Some (row_at s.registers s.top k)
+    looked_up =
+        let n = rows_counted_lem s.registers s.top in
+        let numbered = and_from (in_range s.registers s.top) (ltb k (choose (s.top + s.registers) s.registers)) in_reach (lt-ltb k (choose (s.top + s.registers) s.registers) (omega arith)) in
+        cond-true (is_number s.registers s.top k) (slice_get (rows s.registers s.top) k) None numbered ∙ row_there s.registers s.top k there
 
-    pub updated_few : (p : ℕ) → p ≤ top → place (updated p xs) (rows (length (updated p xs)) top) < 2 ^ 16
-    updated_few p h =
-        let e = updated_is p h in
-        let l = updated_number r top k there p h in
-        let m = few_rows r top few low in
-        omega arith
+    pub not_missing : None ≡ cond (is_number s.registers s.top k) (slice_get (rows s.registers s.top) k) None → ⊥
+    not_missing e = none-some (row_at s.registers s.top k) (e ∙ looked_up)
 
-    -- the row with register j reset
-    module _ (j : ℕ) (first : 1 ≤ j) (last : j ≤ r) where
-      pub reset_has : has_register j xs ≡ true
-      reset_has =
-          let n = (row_numbered r top k there).1 in
-          and_from (leb 1 j) (leb j (length xs)) (le-leb 1 j first) (le-leb j (length xs) (rw (is) (omega arith)))
+    module _ (row : List ℕ) (found : Some row ≡ cond (is_number s.registers s.top k) (slice_get (rows s.registers s.top) k) None) where
+      is_that : row ≡ row_at s.registers s.top k
+      is_that = same_Some row (row_at s.registers s.top k) (found ∙ looked_up)
 
-      kept : IsRow top (reset j (row_at r top k)) × (length (reset j (row_at r top k)) ≡ length (row_at r top k))
-      kept =
-          let n = (row_numbered r top k there).1 in
-          rows_kept_lem.1 top j (row_at r top k) (row_numbered r top k there).0 first (omega arith)
+      pub fits : IsRow s.top row
+      fits = rw is_that (row_numbered s.registers s.top k there).0
 
-      pub reset_fits : IsRow top (reset j xs)
-      reset_fits = rw (is) kept.0
+      pub long : length row ≡ s.registers
+      long = ap length is_that ∙ (row_numbered s.registers s.top k there).1
 
-      pub reset_is : place (reset j xs) (rows (length (reset j xs)) top) ≡ place (reset j (row_at r top k)) (rows r top)
-      reset_is =
-          ap (λ ys. place (reset j ys) (rows (length (reset j ys)) top)) is ∙
-          ap (λ m. place (reset j (row_at r top k)) (rows m top)) (kept.1 ∙ (row_numbered r top k there).1)
+      pub updated_is : (p : ℕ) → place (updated p row) (rows (length row) s.top) ≡ updated_at s.registers s.top k p
+      updated_is p =
+          ap (λ n. place (updated p row) (rows n s.top)) long ∙
+          ap (λ ys. place (updated p ys) (rows s.registers s.top)) is_that
 
-      pub reset_few : place (reset j xs) (rows (length (reset j xs)) top) < 2 ^ 16
-      reset_few =
-          let e = reset_is in
-          let l = reset_number r top k there j first last in
-          let m = few_rows r top few low in
-          omega arith
-
-      pub step_is : (s : Step) → s.row ≡ place (reset j xs) (rows (length (reset j xs)) top) → s.priority ≡ reset_priority j xs → s ≡ step_at r top k j
-      step_is s e f =
-          let not_zero : eqb j 0 ≡ false = ne_eqb j 0 (λ z. (omega arith)) in
-          let row : s.row ≡ (step_at r top k j).row = e ∙ reset_is ∙ sym (cond-false (eqb j 0) _ _ not_zero) in
-          let priority : s.priority ≡ (step_at r top k j).priority = f ∙ ap (λ ys. reset_priority j ys) is ∙ sym (cond-false (eqb j 0) _ _ not_zero) in
-          λ i. record { row = row i; priority = priority i }
-
--- the tables are small
-pub table_small : (r top n w : ℕ) → r ≤ 5 → top ≤ 9 → n ≡ length (rows r top) → w ≤ 10 → n * w ≤ 20020
-table_small r top n w few low e h = let m = few_rows r top few low in let p = mul-le n w 2002 10 (omega arith) h in omega arith
-
--- what the count of rows is
-pub rows_found : (r top n : ℕ) → 1 ≤ r → r ≤ 5 → top ≤ 9 → Some n ≡ cond (in_range r top) (Some (choose (top + r) r)) None → n ≡ length (rows r top)
-rows_found r top n some few low e =
-    some_same n (choose (top + r) r) (e ∙ cond-true (in_range r top) (Some (choose (top + r) r)) None (small_range r top some few low)) ∙ sym (rows_counted_lem r top)
+      pub step_is : (j : ℕ) → step_in (rows (length row) s.top) row j ≡ step_at s.registers s.top k j
+      step_is j =
+          ap (λ n. step_in (rows n s.top) row j) long ∙
+          ap (λ ys. step_in (rows s.registers s.top) ys j) is_that

@@ -1,93 +1,94 @@
--- Copying a game arc by arc, and position by position.
-use Rattle.std.proofs.Common.{◌≡◌, ℕ, zero, suc, ◌+◌, ◌-◌, ◌<◌, ◌≤◌, Bool, true, false, ◌&&◌, ltb, leb, List, [], ◌∷◌, ◌++◌, length, get_or, take, drop, set, Some, None, sym, refl, ap, ◌∙◌, inl, inr, add-one, arith}
-use Rattle.std.specs.List.{between, slice_get}
-use Rattle.std.proofs.lemmas.List.{append_assoc, append-nil, length-append, length-set, get_or-set_same, get_or-set_other, take_more, take_all, take_at, drop_at}
-use Rattle.std.proofs.lemmas.Option.{slice_get-get_or}
-use Rattle.std.proofs.lemmas.Bool.{cases_lt, cases_eq, cond-true, lt-ltb, le-leb, lt-leb, and_from, and_right, leb-true, both_ways}
+-- Copying a game position by position.
+use Rattle.std.proofs.Common.{◌≡◌, ℕ, zero, suc, ◌+◌, ◌-◌, ◌<◌, ◌≤◌, true, false, ◌&&◌, ltb, leb, List, [], ◌∷◌, ◌++◌, length, get_or, take, drop, Some, Ok, Err, Result, sym, refl, ap, ◌∙◌, inl, inr, add-one, arith}
+use Rattle.std.specs.Iterator.{ExtendsWithItems, YieldsFirst, YieldsThen}
+use Rattle.std.specs.List.{between}
+use Rattle.std.specs.Result.{OnErr, is_ok}
+use Rattle.std.proofs.lemmas.Iterator.Adapters.{items_from_extend}
+use Rattle.std.proofs.lemmas.Iterator.Consumers.{YieldsList-from_first}
+use Rattle.std.proofs.lemmas.List.{append_assoc, append-nil, length-append, length_push, get_or_append_left, get_or_push, get_or_past, take_at, drop_at}
+use Rattle.std.proofs.lemmas.Option.{cond_some, slice_get-get_or}
+use Rattle.std.proofs.lemmas.Bool.{cases_lt, cond-true, lt-ltb, le-leb, lt-leb, and_from, and_right}
 use Rattle.game.specs.declared.Player.{Player}
 use Rattle.game.specs.declared.Player.TheVariants.{Even}
 use Rattle.game.specs.declared.Arc.{Arc}
-use Rattle.game.specs.Game.{Game, Lawful, mover_at, arc_count_at, arc_at}
-use Rattle.game.proofs.Arcs.{none_is_not_some, some_same, count_there}
+use Rattle.game.specs.Game.{Game, Lawful, mover_at}
+use Rattle.arena.specs.Arcs.{arcs_from}
+use Rattle.arena.specs.declared.arcs.Arcs.{Arcs}
+use Rattle.registers.specs.declared.position.Position.{Position}
 use Rattle.registers.specs.Layer.{arcs_below, first_arc, arc_total, no_arc}
 use Rattle.registers.specs.Arcs.{first_grows, arc_below}
-use Rattle.registers.specs.Copies.{copied, fits, Alike, Spans, Added}
+use Rattle.registers.specs.Copies.{position_in, copied, fits, ArcInside, Alike, Spans}
 
-module _ (g : Game) (v : ℕ) (there : v < g.size) where
-  arc_present : (i : ℕ) → i < length (g.arcs v) → arc_at g v i ≡ Some (get_or (g.arcs v) i no_arc)
-  arc_present i h = cond-true (ltb v g.size) (slice_get (g.arcs v) i) None (lt-ltb v g.size there) ∙ slice_get-get_or (g.arcs v) i no_arc h
+-- a position as it is copied, and the positions below one
+abbrev pub taken : Game → ℕ → Position
+taken g v = record { mover = g.mover v; first = first_arc g v; count = length (g.arcs v) }
 
-  pub arc_not_absent : (i : ℕ) → i < length (g.arcs v) → None ≡ arc_at g v i → ⊥
-  arc_not_absent i h e = none_is_not_some (get_or (g.arcs v) i no_arc) (e ∙ arc_present i h)
+abbrev pub positions_below : Game → ℕ → List Position
+positions_below g zero = []
+positions_below g (suc v) = positions_below g v ++ taken g v ∷ []
 
-  pub count_found : (n : ℕ) → Some n ≡ arc_count_at g v → length (g.arcs v) ≡ n
-  count_found n e = (count_there g v n (sym e)).1
+pub positions_counted : (g : Game) (n : ℕ) → length (positions_below g n) ≡ n
+positions_counted g zero = refl
+positions_counted g (suc n) =
+    length_push (positions_below g n) (taken g n) ∙ ap (λ m. m + 1) (positions_counted g n) ∙ add-one n
 
-  pub mover_found : (p : Player) → Some p ≡ mover_at g v → p ≡ g.mover v
-  mover_found p e = some_same p (g.mover v) (e ∙ cond-true (ltb v g.size) (Some (g.mover v)) None (lt-ltb v g.size there))
+position_is : (g : Game) (n v : ℕ) (d : Position) → v < n → get_or (positions_below g n) v d ≡ taken g v
+position_is g zero v d h = absurd (omega arith)
+position_is g (suc n) v d h =
+    let last : Position = taken g n in
+    let long = positions_counted g n in
+    elim (cases_lt v n) [
+      | inl l ↦ get_or_append_left (positions_below g n) (last ∷ []) d v (omega arith) ∙ position_is g n v d l
+      | inr l ↦
+          let same : v ≡ n = omega arith in
+          get_or_push (positions_below g n) last d v (omega arith) ∙ ap (taken g) (sym same)
+    ]
 
-  -- one more arc of the position
-  pub arcs_more : (xs ys zs : List Arc) (i : ℕ) (a : Arc) → i < length (g.arcs v) → Some a ≡ arc_at g v i →
-      ys ≡ xs ++ take i (g.arcs v) → zs ≡ ys ++ a ∷ [] → zs ≡ xs ++ take (i + 1) (g.arcs v)
-  arcs_more xs ys zs i a h e f p =
-      let same : a ≡ get_or (g.arcs v) i no_arc = some_same a (get_or (g.arcs v) i no_arc) (e ∙ arc_present i h) in
-      p ∙
-      ap (λ ws. ws ++ a ∷ []) f ∙
-      append_assoc xs (take i (g.arcs v)) (a ∷ []) ∙
-      ap (λ b. xs ++ (take i (g.arcs v) ++ b ∷ [])) same ∙
-      ap (λ ws. xs ++ ws) (sym (take_more (g.arcs v) i no_arc h))
+pub position_more : (g : Game) (v : ℕ) (xs ys : List Position) (p : Player) (n m : ℕ) → xs ≡ positions_below g v → ys ≡ xs ++ record { mover = p; first = n; count = m } ∷ [] →
+    Some p ≡ mover_at g v → n ≡ first_arc g v → m ≡ length (g.arcs v) → ys ≡ positions_below g (v + 1)
+position_more g v xs ys p n m e f is first count =
+    let mover = (cond_some (ltb v g.size) (g.mover v) p (sym is)).1 in
+    f ∙
+    ap (λ zs. zs ++ record { mover = p; first = n; count = m } ∷ []) e ∙
+    ap (λ (q : Position). positions_below g v ++ q ∷ []) (λ i. record { mover = sym mover i; first = first i; count = count i }) ∙
+    ap (positions_below g) (sym (add-one v))
 
-  pub arcs_all : (xs ys : List Arc) (i : ℕ) → length (g.arcs v) ≤ i → length xs + length (g.arcs v) ≤ 64 → ys ≡ xs ++ take i (g.arcs v) → Added true (g.arcs v) xs ys
-  arcs_all xs ys i h few f = record {
-    when = sym (le-leb (length xs + length (g.arcs v)) 64 few);
-    then = λ _. f ∙ ap (λ ws. xs ++ ws) (take_all i (g.arcs v) h);
-  }
+-- where one more item came, not all had come
+more_left : {S A : Type 0} (rest : S → List A) (s u : S) (xs : List A) (x : A) → YieldsThen (YieldsFirst rest) s xs (Some x) u → length xs < length (rest s)
+more_left rest s u [] x (t, e, step) = let n = ap (λ j. length (rest j)) e in let m = ap length step in omega arith
+more_left rest s u (y ∷ xs) x (t, (j, first, more), step) =
+    let n = ap length first in
+    let m = more_left rest j u xs x (t, more, step) in
+    omega arith
 
--- what stands in the copy when the positions below v are copied
-pub record Copying (g : Game) (v : ℕ) (movers : List Player) (firsts : List ℕ) (arcs : List Arc) : Type 0 where
-  pub sixteen : length movers ≡ 16
-  pub seventeen : length firsts ≡ 17
-  pub few : length arcs ≤ 64
-  pub all : arcs ≡ arcs_below g v
-  pub first : (u : ℕ) → u ≤ v → get_or firsts u 0 ≡ first_arc g u
-  pub mover : (u : ℕ) → u < v → get_or movers u Even ≡ g.mover u
+-- a position's arcs are added behind those of the positions below it
+abbrev left : {A : Type 0} → (A → Game) → Arcs A → List Arc
+left game s = arcs_from (game s.arena.now) s.position s.next
 
-pub copying_more : (g : Game) (v : ℕ) (movers : List Player) (firsts : List ℕ) (arcs arcs' : List Arc) (p : Player) (n : ℕ) (done : Bool) → v < 16 →
-    Copying g v movers firsts arcs → p ≡ g.mover v → done ≡ true → Added done (g.arcs v) arcs arcs' → n ≡ length arcs' →
-    Copying g (v + 1) (set movers v p) (set firsts (v + 1) n) arcs'
-copying_more g v movers firsts arcs arcs' p n done h w e yes_done added m =
-    let sixteen = w.sixteen in
-    let seventeen = w.seventeen in
-    let joined : arcs' ≡ arcs ++ g.arcs v = added.then yes_done in
-    let whole : arcs' ≡ arcs_below g (v + 1) = joined ∙ ap (λ xs. xs ++ g.arcs v) w.all ∙ ap (λ k. arcs_below g k) (sym (add-one v)) in
-    record {
-      sixteen = length-set movers v p ∙ sixteen;
-      seventeen = length-set firsts (v + 1) n ∙ seventeen;
-      few = (let l = leb-true (length arcs + length (g.arcs v)) 64 (sym added.when ∙ yes_done) in let k = ap length joined in let s = length-append arcs (g.arcs v) in omega arith);
-      all = whole;
-      first = λ u l. elim (cases_eq u (v + 1)) [
-        | inl at ↦ rw (at) (get_or-set_same firsts (v + 1) n 0 (omega arith) ∙ m ∙ ap length whole)
-        | inr apart ↦ get_or-set_other firsts (v + 1) u n 0 apart ∙ w.first u (omega arith)
-      ];
-      mover = λ u l. elim (cases_eq u v) [
-        | inl at ↦ rw (at) (get_or-set_same movers v p Even (omega arith) ∙ e)
-        | inr apart ↦ get_or-set_other movers v u p Even apart ∙ w.mover u (omega arith)
-      ];
-    }
+module _ {A : Type 0} (game : A → Game) (g : Game) (v : ℕ) (there : v < g.size) (it : Arcs A) (before after : List Arc) where
+  module _ (all : left game it ≡ arcs_from g v 0) (is : before ≡ arcs_below g v) where
+    whole : left game it ≡ g.arcs v
+    whole = all ∙ cond-true (ltb v g.size) (drop 0 (g.arcs v)) [] (lt-ltb v g.size there)
 
--- too many arcs
-pub too_many : (g : Game) (v : ℕ) (movers : List Player) (firsts : List ℕ) (arcs arcs' : List Arc) (done : Bool) → v < g.size →
-    Copying g v movers firsts arcs → done ≡ false → Added done (g.arcs v) arcs arcs' → fits g ≡ false
-too_many g v movers firsts arcs arcs' done h w none added =
-    let over : 64 < arc_total g = elim (cases_lt 64 (length arcs + length (g.arcs v))) [
-      | inl l ↦
-          let s = length-append (arcs_below g v) (g.arcs v) in
-          let e = ap length w.all in
-          let k = first_grows g (suc v) g.size h in
-          omega arith
-      | inr l ↦ absurd (both_ways done none (added.when ∙ le-leb (length arcs + length (g.arcs v)) 64 l))
-    ] in
-    and_right (leb g.size 16 && leb g.top 9) (leb (arc_total g) 64) (lt-leb (arc_total g) 64 over)
+    pub arcs_added : {E : Type 0} (r : Result (Unit {0}) E) → true ≡ is_ok r → ExtendsWithItems (λ s t. t ≡ s) (YieldsFirst (left game)) (λ old xs new. new ≡ old ++ xs) it before after r → after ≡ arcs_below g (v + 1)
+    arcs_added {E} (Err e) done ran = absurd (cc)
+    arcs_added {E} (Ok x) done ran =
+        items_from_extend {E = E} (Ok x) ran (YieldsList-from_first (λ a. a) (left game) (g.arcs v) whole) ∙
+        ap (λ xs. xs ++ g.arcs v) is ∙
+        ap (arcs_below g) (sym (add-one v))
+
+    pub too_many : {E : Type 0} (r : Result (Unit {0}) E) → false ≡ is_ok r → OnErr r (length after ≡ 64) →
+        OnErr r ((s : Arcs A) × (xs : List Arc) × (a : Arc) × (u : Arcs A) × (s ≡ it) × YieldsThen (YieldsFirst (left game)) s xs (Some a) u × (after ≡ before ++ xs)) →
+        fits g ≡ false
+    too_many (Ok x) failed full one_more = absurd (cc)
+    too_many (Err e) failed full (s, xs, a, u, of, more, joined) =
+        let fewer = more_left (left game) s u xs a more in
+        let of_all = ap (λ t. length (left game t)) of ∙ ap length whole in
+        let m = ap length (joined ∙ ap (λ ys. ys ++ xs) is) in
+        let n = length-append (arcs_below g v) xs in
+        let t = length-append (arcs_below g v) (g.arcs v) in
+        let k = first_grows g (suc v) g.size there in
+        and_right (leb g.size 16 && leb g.top 9) (leb (arc_total g) 64) (lt-leb (arc_total g) 64 (omega arith))
 
 -- the arcs of a position stand among all where its first arc stands
 arcs_rest : (g : Game) (v n : ℕ) → v ≤ n → (rest : List Arc) × (arcs_below g n ≡ arcs_below g v ++ rest)
@@ -108,45 +109,73 @@ arcs_between g v n h =
     ap (λ xs. take k xs) (drop_at (arcs_below g v) (g.arcs v ++ rest) (first_arc g v) refl) ∙
     take_at (g.arcs v) rest k (omega arith)
 
--- the whole copy, of n positions and top t
-module _ (g : Game) (laws : Lawful g) {n t : ℕ} (sized : n ≡ g.size) (topped : t ≡ g.top)
-    {movers : List Player} {firsts : List ℕ} {arcs : List Arc} (w : Copying g n movers firsts arcs) where
-  pub copy_spans : Spans n firsts arcs
-  copy_spans = record {
-    starts = w.first 0 (omega arith);
-    leaves = λ v h. (
-        let a = w.first v (omega arith) in
-        let b = w.first (v + 1) (omega arith) ∙ ap (λ m. first_arc g m) (add-one v) in
-        let s = length-append (arcs_below g v) (g.arcs v) in
-        let k = laws.some_arc v (omega arith) in
-        omega arith);
-    ends = w.first n (omega arith) ∙ ap length (sym w.all);
-  }
+-- the whole copy
+module _ (g : Game) (laws : Lawful g) where
+  abbrev n : ℕ
+  n = g.size
 
-  pub copy_inside : (e : ℕ) → e < length arcs → ((get_or arcs e no_arc).target < n) × ((get_or arcs e no_arc).priority ≤ t)
+  abbrev positions : List Position
+  positions = positions_below g n
+
+  abbrev arcs : List Arc
+  arcs = arcs_below g n
+
+  abbrev position : ℕ → Position
+  position v = position_in positions arcs v
+
+  copy_position : (v : ℕ) → v < n → position v ≡ taken g v
+  copy_position v h = position_is g n v (record { mover = Even; first = length arcs; count = 0 }) h
+
+  copy_first : (v : ℕ) → v ≤ n → (position v).first ≡ first_arc g v
+  copy_first v h = elim (cases_lt v n) [
+    | inl l ↦ ap (λ (p : Position). p.first) (copy_position v l)
+    | inr l ↦
+        let same : v ≡ n = omega arith in
+        let long = positions_counted g n in
+        ap (λ (p : Position). p.first) (get_or_past positions v (record { mover = Even; first = length arcs; count = 0 }) (omega arith)) ∙ ap (λ m. first_arc g m) (sym same)
+  ]
+
+  copy_count : (v : ℕ) → v < n → (position v).count ≡ length (g.arcs v)
+  copy_count v h = ap (λ (p : Position). p.count) (copy_position v h)
+
+  pub copy_spans : Spans positions arcs
+  copy_spans =
+      let long = positions_counted g n in
+      record {
+        starts = copy_first 0 (omega arith);
+        follows = λ v h. (
+            let a = copy_first v (omega arith) in
+            let b = copy_first (v + 1) (omega arith) ∙ ap (λ m. first_arc g m) (add-one v) in
+            let c = copy_count v (omega arith) in
+            let s = length-append (arcs_below g v) (g.arcs v) in
+            omega arith);
+        leaves = λ v h. (
+            let c = copy_count v (omega arith) in
+            let k = laws.some_arc v (omega arith) in
+            omega arith);
+      }
+
+  pub copy_inside : (e : ℕ) → e < length arcs → ArcInside (length positions) g.top arcs e
   copy_inside e h =
-      let leads = arc_below g laws n e (get_or arcs e no_arc) (omega arith) (ap (λ xs. slice_get xs e) (sym w.all) ∙ slice_get-get_or arcs e no_arc h) in
+      let long = positions_counted g n in
+      let leads = arc_below g laws n e (get_or arcs e no_arc) (omega arith) (slice_get-get_or arcs e no_arc h) in
       omega arith
 
-  pub copy_fits : n ≤ 16 → t ≤ 9 → fits g ≡ true
-  copy_fits small low =
-      let few = w.few in
-      let total : length arcs ≡ arc_total g = ap length w.all ∙ ap (λ m. first_arc g m) sized in
-      and_from (leb g.size 16 && leb g.top 9) (leb (arc_total g) 64)
-      (and_from (leb g.size 16) (leb g.top 9) (le-leb g.size 16 (omega arith)) (le-leb g.top 9 (omega arith)))
-      (le-leb (arc_total g) 64 (omega arith))
+  pub copy_fits : n ≤ 16 → g.top ≤ 9 → length arcs ≤ 64 → fits g ≡ true
+  copy_fits small low few =
+      and_from (leb n 16 && leb g.top 9) (leb (arc_total g) 64)
+      (and_from (leb n 16) (leb g.top 9) (le-leb n 16 small) (le-leb g.top 9 low))
+      (le-leb (arc_total g) 64 few)
 
-  copied_arcs : (v : ℕ) → v < n → between (get_or firsts v 0) (get_or firsts (v + 1) 0) arcs ≡ g.arcs v
-  copied_arcs v h =
-      ap (λ m. between m (get_or firsts (v + 1) 0) arcs) (w.first v (omega arith)) ∙
-      ap (λ m. between (first_arc g v) m arcs) (w.first (v + 1) (omega arith) ∙ ap (λ m. first_arc g m) (add-one v)) ∙
-      ap (λ xs. between (first_arc g v) (first_arc g (suc v)) xs) w.all ∙
-      arcs_between g v n h
-
-  pub copy_alike : Alike g (copied n t movers firsts arcs)
+  pub copy_alike : Alike g (copied g.top positions arcs)
   copy_alike = record {
-    same_size = sized;
-    same_top = topped;
-    same_mover = λ v h. w.mover v (omega arith);
-    same_arcs = λ v h. copied_arcs v (omega arith);
+    same_size = positions_counted g n;
+    same_top = refl;
+    same_mover = λ v h. ap (λ (p : Position). p.mover) (copy_position v h);
+    same_arcs = λ v h. (
+        let s = length-append (arcs_below g v) (g.arcs v) in
+        let last : first_arc g v + length (g.arcs v) ≡ first_arc g (suc v) = omega arith in
+        ap (λ (p : Position). between p.first (p.first + p.count) arcs) (copy_position v h) ∙
+        ap (λ m. between (first_arc g v) m arcs) last ∙
+        arcs_between g v n h);
   }

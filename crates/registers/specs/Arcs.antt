@@ -4,15 +4,15 @@ use Rattle.std.proofs.Common.{sym, ap, ◌∙◌, inl, inr, arith}
 use Rattle.std.specs.Option.{option_map}
 use Rattle.std.specs.List.{slice_get}
 use Rattle.std.proofs.lemmas.List.{length-append, length_push, length-replicate}
-use Rattle.std.proofs.lemmas.Option.{slice_get-get_or}
+use Rattle.std.proofs.lemmas.Option.{none-some, slice_get-get_or, slice_get_within}
 use Rattle.std.proofs.lemmas.Bool.{cases_lt}
 use Rattle.game.specs.declared.Arc.{Arc}
 use Rattle.game.specs.Game.{Game, Lawful}
-use Rattle.game.proofs.Arcs.{none_is_not_some, arc_from}
+use Rattle.game.proofs.Arcs.{arc_from}
 use Rattle.rows.specs.Choose.{choose}
 use Rattle.rows.specs.Rows.{IsRow, rows, place, formula}
 use Rattle.rows.specs.Registers.{updated, reset}
-use Rattle.rows.proofs.Members.{nth_there, nth_left, nth_right, nth_joined}
+use Rattle.rows.proofs.Members.{nth_left, nth_right, nth_joined}
 use Rattle.rows.proofs.Numbering.{rows_counted_lem, listed_row, row_listed, place_is, rows_numbered_lem}
 use Rattle.rows.proofs.Moving.{rows_kept_lem}
 use Rattle.rows.proofs.Held.{zeros_row}
@@ -29,23 +29,28 @@ choose_grows a (suc n) b h = elim (cases_lt n a) [
   | inr l ↦ let k = choose_grows a n b l in let s = choose_next n b in omega arith
 ]
 
-few_ways : (r top : ℕ) → r ≤ 5 → top ≤ 9 → choose (top + r) r ≤ 2002
-few_ways zero top h l = omega arith
-few_ways (suc zero) top h l = let k = choose_grows (top + suc zero) 10 (suc zero) (omega arith) in omega arith
-few_ways (suc (suc zero)) top h l = let k = choose_grows (top + suc (suc zero)) 11 (suc (suc zero)) (omega arith) in omega arith
-few_ways (suc (suc (suc zero))) top h l = let k = choose_grows (top + suc (suc (suc zero))) 12 (suc (suc (suc zero))) (omega arith) in omega arith
-few_ways (suc (suc (suc (suc zero)))) top h l = let k = choose_grows (top + suc (suc (suc (suc zero)))) 13 (suc (suc (suc (suc zero)))) (omega arith) in omega arith
-few_ways (suc (suc (suc (suc (suc zero))))) top h l = let k = choose_grows (top + suc (suc (suc (suc (suc zero))))) 14 (suc (suc (suc (suc (suc zero))))) (omega arith) in omega arith
-few_ways (suc (suc (suc (suc (suc (suc r)))))) top h l = absurd (omega arith)
+-- how many rows up to five registers have, with contents up to 9 and up to 10
+pub few_choices : (r : ℕ) → r ≤ 5 → (choose (9 + r) r ≤ 2002) × (choose (10 + r) r ≤ 3003)
+few_choices zero h = (omega arith, omega arith)
+few_choices (suc zero) h = (omega arith, omega arith)
+few_choices (suc (suc zero)) h = (omega arith, omega arith)
+few_choices (suc (suc (suc zero))) h = (omega arith, omega arith)
+few_choices (suc (suc (suc (suc zero)))) h = (omega arith, omega arith)
+few_choices (suc (suc (suc (suc (suc zero))))) h = (omega arith, omega arith)
+few_choices (suc (suc (suc (suc (suc (suc r)))))) h = absurd (omega arith)
 
 -- there are 1 to 2002 rows
 pub few_rows : (r top : ℕ) → r ≤ 5 → top ≤ 9 → length (rows r top) ≤ 2002
-few_rows r top h l = rw (rows_counted_lem r top) (few_ways r top h l)
+few_rows r top h l =
+    let counted = rows_counted_lem r top in
+    let grows = choose_grows (top + r) (9 + r) r (omega arith) in
+    let few = few_choices r h in
+    omega arith
 
 pub some_row : (r top : ℕ) → 1 ≤ length (rows r top)
 some_row r top =
     let zs : List ℕ = replicate r 0 in
-    let h = nth_there (rows r top) (formula zs) zs (row_listed r top zs (zeros_row top r) (length-replicate r 0)) in
+    let h = slice_get_within (rows r top) (formula zs) zs (row_listed r top zs (zeros_row top r) (length-replicate r 0)) in
     omega arith
 
 -- the row with a number, its number, and the numbers of the rows that a move leads to
@@ -61,7 +66,7 @@ module _ (r top k : ℕ) (there : k < length (rows r top)) where
 
   number_below : (xs : List ℕ) → IsRow top xs × (length xs ≡ length (slice_index_or (rows r top) k [])) → place xs (rows r top) < length (rows r top)
   number_below xs h =
-      nth_there (rows r top) (place xs (rows r top)) xs (rows_numbered_lem.1 r top xs h.0 (h.1 ∙ row_numbered.1))
+      slice_get_within (rows r top) (place xs (rows r top)) xs (rows_numbered_lem.1 r top xs h.0 (h.1 ∙ row_numbered.1))
 
   pub updated_number : (p : ℕ) → p ≤ top → place (updated p (slice_index_or (rows r top) k [])) (rows r top) < length (rows r top)
   updated_number p low =
@@ -87,7 +92,7 @@ arc_number_lem g v n i h l =
     omega arith
 
 pub arc_below : (g : Game) → Lawful g → (v e : ℕ) (a : Arc) → v ≤ g.size → slice_get (arcs_below g v) e ≡ Some a → (a.target < g.size) × (a.priority ≤ g.top)
-arc_below g laws zero e a h there = absurd (none_is_not_some a there)
+arc_below g laws zero e a h there = absurd (none-some a there)
 arc_below g laws (suc v) e a h there = elim (nth_joined (arcs_below g v) (g.arcs v) e a there) [
   | inl l ↦ arc_below g laws v e a (omega arith) l
   | inr (m, _, at) ↦ let f = arc_from g v m a h at in (laws.target_inside v m a f, laws.priority_low v m a f)

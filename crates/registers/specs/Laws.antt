@@ -1,17 +1,16 @@
 -- The layer's game keeps the laws where the game below does.
-use Rattle.std.specs.Prelude.{◌≡◌, ℕ, zero, suc, ◌+◌, ◌-◌, ◌*◌, ◌/◌, ◌%◌, ◌<◌, ◌≤◌, true, ◌&&◌, List, [], length, get_or, Some, nat_le, nat_lt, slice_index_or}
+use Rattle.std.specs.Prelude.{◌≡◌, ℕ, zero, suc, ◌+◌, ◌-◌, ◌*◌, ◌/◌, ◌%◌, ◌<◌, ◌≤◌, true, ◌&&◌, List, [], length, Some, nat_le, nat_lt, slice_index_or}
 use Rattle.std.proofs.Common.{sym, ◌∙◌, inl, inr}
 use native.Mathlib.Omega.{arith}
 use Rattle.std.specs.List.{slice_get}
 use Rattle.std.proofs.lemmas.Nat.{mul-le, mul-add-lt, div_below, mod_below}
-use Rattle.std.proofs.lemmas.Option.{slice_get-get_or}
+use Rattle.std.proofs.lemmas.Option.{same_Some, slice_get-get_or, slice_get_within}
 use Rattle.std.proofs.lemmas.Bool.{cases_lt, cases_Bool, and_parts, leb-true, cond-true, cond-false, lt-ltb, le-ltb}
 use Rattle.game.specs.declared.Arc.{Arc}
 use Rattle.game.specs.Game.{Game, Lawful, arc_at}
-use Rattle.game.proofs.Arcs.{some_same, arc_there, arc_from}
+use Rattle.game.proofs.Arcs.{arc_there, arc_from}
 use Rattle.game.proofs.Layers.{mapped_some}
 use Rattle.rows.specs.Rows.{rows}
-use Rattle.rows.proofs.Members.{nth_there}
 use Rattle.registers.specs.Layer.{arcs_below, first_arc, arc_total, row_count, row_number, updates, reset_arc, resets_to, choices, no_arc, layer_arcs, stands, layer, no_positions, registers}
 use Rattle.registers.specs.Arcs.{few_rows, some_row, number_is, updated_number, reset_number, arc_number_lem, arc_below, update_arc, length_updates, updates_at, length_resets, resets_at}
 
@@ -75,9 +74,9 @@ module _ (r : ℕ) (g : Game) (laws : Lawful g) (stand : Standing r g) where
   update_inside : (at k i : ℕ) (a : Arc) → at < g.size → k < row_count r g → slice_get (updates r g (slice_index_or (rows r g.top) k []) (first_arc g at) (g.arcs at)) i ≡ Some a → Inside a
   unfolding Inside
   update_inside at k i a h l there =
-      let row : List ℕ = get_or (rows r g.top) k [] in
+      let row : List ℕ = slice_index_or (rows r g.top) k [] in
       let (b, below, same) = mapped_some (update_arc r g row (first_arc g at + i)) (slice_get (g.arcs at) i) a (sym (updates_at r g row (first_arc g at) (g.arcs at) i) ∙ there) in
-      let n = arc_number_lem g at g.size i h (nth_there (g.arcs at) i b below) in
+      let n = arc_number_lem g at g.size i h (slice_get_within (g.arcs at) i b below) in
       let low = laws.priority_low at i b (arc_from g at i b h below) in
       let t = place_inside (g.size + (first_arc g at + i)) (row_number r g _) (omega arith) (updated_number r g.top k l b.priority low) in
       rw same (t, omega arith)
@@ -86,26 +85,26 @@ module _ (r : ℕ) (g : Game) (laws : Lawful g) (stand : Standing r g) where
   unfolding Inside
   choice_inside k zero b a h l there =
       let t = place_inside b.target k (omega arith) l in
-      rw (← some_same _ a there) (rw (number_is r g.top k l) (t, omega arith))
+      rw (← same_Some _ a there) (rw (number_is r g.top k l) (t, omega arith))
   choice_inside k (suc j) b a h l there =
-      let row : List ℕ = get_or (rows r g.top) k [] in
-      let n = nth_there (resets_to r g row b r) j a there in
+      let row : List ℕ = slice_index_or (rows r g.top) k [] in
+      let n = slice_get_within (resets_to r g row b r) j a there in
       let m = length_resets r g row b r in
       let low : j < r = omega arith in
       let t = place_inside b.target (row_number r g _) (omega arith) (reset_number r g.top k l (suc j) (omega arith) low) in
-      rw (← some_same (reset_arc r g row b (suc j)) a (sym (resets_at r g row b r j low) ∙ there)) (t, omega arith)
+      rw (← same_Some (reset_arc r g row b (suc j)) a (sym (resets_at r g row b r j low) ∙ there)) (t, omega arith)
 
   arc_inside : (x i : ℕ) (a : Arc) → arc_at (layer r g) x i ≡ Some a → Inside a
   arc_inside x i a e =
       let there = arc_there (layer r g) x i a e in
       let at : ℕ = x / row_count r g in
       let k : ℕ = x % row_count r g in
-      let row : List ℕ = get_or (rows r g.top) k [] in
+      let row : List ℕ = slice_index_or (rows r g.top) k [] in
       elim (cases_lt at g.size) [
         | inl h ↦ update_inside at k i a h (row_number_lem x) (rw (at_position at row h) at there.1)
         | inr h ↦
             let in_range = at_there x there.0 in
-            let b : Arc = get_or (arcs_below g g.size) (at - g.size) no_arc in
+            let b : Arc = slice_index_or (arcs_below g g.size) (at - g.size) no_arc in
             let below = slice_get-get_or (arcs_below g g.size) (at - g.size) no_arc (omega arith) in
             let leads = arc_below g laws g.size (at - g.size) b (omega arith) below in
             choice_inside k i b a leads.0 (row_number_lem x) (rw (at_arc at row h) at there.1)

@@ -1,8 +1,16 @@
 -- What moves do to the numbers of rows.
-use Rattle.std.specs.Prelude.{◌≡◌, ℕ, ◌<◌, cond, List, [], length, ◌==◌, slice_index_or}
+use Rattle.std.specs.Prelude.{◌≡◌, ℕ, zero, suc, ◌≤◌, cond, List, [], length, Some, None, Option, slice_index, slice_index_or}
 use Rattle.rows.specs.Rows.{rows, place}
 use Rattle.rows.specs.Registers.{updated, reset, reset_priority}
-use Rattle.registers.specs.declared.step.Step.{Step}
+use Rattle.rows.specs.Views.{has_register}
+use Rattle.registers.specs.declared.row_moves.Step.{Step}
+use Rattle.registers.specs.declared.row_moves.RowMoves.{RowMoves}
+
+-- Step 0 from a row of a list leaves it alone, with priority 1; step j resets register j, if the row has it.
+abbrev pub step_in : List (List ℕ) → List ℕ → ℕ → Option Step
+step_in listed row zero = Some (record { row = place row listed; priority = 1 })
+step_in listed row (suc j) =
+    cond (has_register (suc j) row) (Some (record { row = place (reset (suc j) row) listed; priority = reset_priority (suc j) row })) None
 
 -- Row number k of r registers with contents from 0 to top.
 abbrev pub row_at : ℕ → ℕ → ℕ → List ℕ
@@ -12,18 +20,12 @@ row_at r top k = slice_index_or (rows r top) k []
 abbrev pub updated_at : ℕ → ℕ → ℕ → ℕ → ℕ
 updated_at r top k p = place (updated p (row_at r top k)) (rows r top)
 
--- Step 0 leaves row k alone, with priority 1; step j, from 1 to r, resets register j.
-abbrev pub step_at : ℕ → ℕ → ℕ → ℕ → Step
-step_at r top k j = record {
-  row = cond (j == 0) k (place (reset j (row_at r top k)) (rows r top));
-  priority = cond (j == 0) 1 (reset_priority j (row_at r top k));
-}
+-- Step j from row k.
+abbrev pub step_at : ℕ → ℕ → ℕ → ℕ → Option Step
+step_at r top k j = step_in (rows r top) (row_at r top k) j
 
--- What stands where there is no step.
-abbrev pub no_step : Step
-no_step = record { row = 0; priority = 0 }
-
--- The list has n items, and item m is f m.
-pub record Listed {X : Type 0} (d : X) (n : ℕ) (f : ℕ → X) (xs : List X) : Type 0 where
-  pub whole : length xs ≡ n
-  pub each : (m : ℕ) → m < n → slice_index_or xs m d ≡ f m
+-- The moves of row number k, each in its place.
+pub record MovesOf (r top k : ℕ) (m : RowMoves) : Type 0 where
+  pub ten : length m.updates ≡ 10
+  pub updates : (p : ℕ) → p ≤ top → slice_index m.updates p ≡ updated_at r top k p
+  pub steps : (j : ℕ) → slice_index_or m.steps j None ≡ step_at r top k j

@@ -1,61 +1,79 @@
 // What the registers answer, as an arena.
-ghost use Rattle.std.specs.Prelude.{◌≡◌, ◌+◌, ◌<◌, length, IfOk};
+ghost use Rattle.std.specs.Prelude.{◌≡◌, ◌+◌, ◌<◌, length};
 ghost use Rattle.registers.specs.Layer.{registers};
-ghost use Rattle.registers.specs.Views.{game_of, game_lawful, arcs_at, enter_arc, leave_arc};
+ghost use Rattle.registers.specs.Views.{game_of, game_lawful, layer_game, layer_game_lawful, layer_of, enter_arc, leave_arc, StandsAt};
 
 use super::copied::Copied;
 use super::moves::Moves;
 use super::registers::{Layer, Registers};
+use super::shape::Shape;
+use super::spot::Spot;
 use arena::Arena;
 use game::{Arc, Player};
-use std::alloc::{AllocError, Global};
 
 impl Registers {
     // The layer of r registers over an arena, which is asked now and not again.
-    pub fn over<A: Arena>(heap: Global, arena: &A, r: usize) -> Result<Registers, AllocError>
-        ensures { IfOk result (λ x. game_of x ≡ registers r (A.game arena.now)) }
+    pub fn over<A: Arena>(arena: &A, r: usize) -> Registers
+        ensures { game_of result ≡ registers r (A.game arena.now) }
     {
-        if r == 0 || r > 5 {
-            return Ok(Registers { layer: None });
+        Registers {
+            layer: Layer::over(arena, r),
         }
-        let Some(below) = Copied::of(heap, arena)? else {
-            return Ok(Registers { layer: None });
-        };
-        let moves = Moves::new(heap, r, below.top)?;
-        Ok(Registers {
-            layer: Some(Layer { below, moves }),
-        })
     }
 }
 
 impl Layer {
-    // How many positions and arcs the arena below has together: they are the places of the layer, each with every row.
-    fn places(&self) -> usize
-        ensures { result ≡ self.now.below.size + length self.now.below.arcs.items }
+    // The layer where it stands.
+    fn over<A: Arena>(arena: &A, r: usize) -> Option<Layer>
+        ensures { layer_of result ≡ registers r (A.game arena.now) }
     {
-        self.below.size + self.below.arcs.len()
+        if r == 0 || r > 5 {
+            return None;
+        }
+        let below = Copied::of(arena)?;
+        let moves = Moves::new(Shape {
+            registers: r,
+            top: below.top,
+        });
+        Some(Layer { below, moves })
     }
 
-    // How many arcs there are at a place, whatever the row.
-    fn arcs_at(&self, at: usize) -> usize
-        ensures { result ≡ arcs_at self.now at }
+    // How many positions and arcs the arena below has together: they are the places of the layer, each with every row.
+    fn places(&self) -> usize
+        ensures { result ≡ length self.now.below.positions.items + length self.now.below.arcs.items }
     {
-        if at < self.below.size {
-            self.below.firsts[at + 1] - self.below.firsts[at]
+        self.below.positions.len() + self.below.arcs.len()
+    }
+
+    // Where position x of the layer stands.
+    fn spot(&self, x: usize) -> Option<Spot>
+        ensures { StandsAt self.now x result }
+    {
+        let count = self.moves.by_row.len();
+        let place = x / count;
+        let row = x % count;
+        let size = self.below.positions.len();
+        if place < size {
+            Some(Spot::AtPosition { v: place, row })
+        } else if place - size < self.below.arcs.len() {
+            Some(Spot::AtArc {
+                e: place - size,
+                row,
+            })
         } else {
-            self.moves.registers + 1
+            None
         }
     }
 
     // The arc from row k to arc e of the arena below, with the row updated.
     fn entering(&self, e: usize, k: usize) -> Arc
         requires arc { e < length self.now.below.arcs.items }
-        requires row { k < self.now.moves.count }
+        requires row { k < length self.now.moves.by_row.items }
         ensures { result ≡ enter_arc self.now e k }
     {
-        let row = self.moves.updated(k, self.below.arc(e).priority);
+        let row = self.moves.updated(k, self.below.arcs[e].priority);
         Arc {
-            target: (self.below.size + e) * self.moves.count + row as usize,
+            target: (self.below.positions.len() + e) * self.moves.by_row.len() + row as usize,
             priority: 0,
         }
     }
@@ -63,74 +81,78 @@ impl Layer {
     // Arc j at arc e of the arena below and row k: it leads on to where e leads, by step j from the row.
     fn leaving(&self, e: usize, k: usize, j: usize) -> Option<Arc>
         requires arc { e < length self.now.below.arcs.items }
-        requires row { k < self.now.moves.count }
+        requires row { k < length self.now.moves.by_row.items }
         ensures { result ≡ leave_arc self.now e k j }
     {
-        if j > self.moves.registers {
-            return None;
-        }
-        let step = self.moves.step(k, j);
+        let step = self.moves.step(k, j)?;
         Some(Arc {
-            target: self.below.arc(e).target * self.moves.count + step.row as usize,
+            target: self.below.arcs[e].target * self.moves.by_row.len() + step.row as usize,
             priority: step.priority,
         })
     }
 }
 
+impl Arena for Layer {
+    ghost game = { layer_game };
+
+    ghost lawful = { layer_game_lawful };
+
+    fn size(&self) -> usize {
+        self.places() * self.moves.by_row.len()
+    }
+
+    fn top(&self) -> u8 {
+        2 * self.moves.shape.registers as u8 + 1
+    }
+
+    fn mover(&self, x: usize) -> Option<Player> {
+        match self.spot(x)? {
+            Spot::AtPosition { v, .. } => Some(self.below.positions[v].mover),
+            Spot::AtArc { .. } => Some(Player::Even),
+        }
+    }
+
+    fn arc_count(&self, x: usize) -> Option<usize> {
+        match self.spot(x)? {
+            Spot::AtPosition { v, .. } => Some(self.below.positions[v].count),
+            Spot::AtArc { .. } => Some(self.moves.shape.registers + 1),
+        }
+    }
+
+    fn arc(&self, x: usize, i: usize) -> Option<Arc> {
+        match self.spot(x)? {
+            Spot::AtPosition { v, row } => {
+                let e = self.below.number(v, i)?;
+                Some(self.entering(e, row))
+            }
+            Spot::AtArc { e, row } => self.leaving(e, row, i),
+        }
+    }
+}
+
+// Where the layer does not stand there are no positions.
 impl Arena for Registers {
     ghost game = { game_of };
 
     ghost lawful = { game_lawful };
 
     fn size(&self) -> usize {
-        let Some(layer) = &self.layer else {
-            return 0;
-        };
-        layer.places() * layer.moves.count
+        self.layer.as_ref().map_or(0, |layer| layer.size())
     }
 
     fn top(&self) -> u8 {
-        let Some(layer) = &self.layer else {
-            return 0;
-        };
-        2 * layer.moves.registers as u8 + 1
+        self.layer.as_ref().map_or(0, |layer| layer.top())
     }
 
     fn mover(&self, v: usize) -> Option<Player> {
-        let Some(layer) = &self.layer else {
-            return None;
-        };
-        let at = v / layer.moves.count;
-        if at >= layer.places() {
-            return None;
-        }
-        Some(layer.below.mover(at))
+        self.layer.as_ref()?.mover(v)
     }
 
     fn arc_count(&self, v: usize) -> Option<usize> {
-        let Some(layer) = &self.layer else {
-            return None;
-        };
-        let at = v / layer.moves.count;
-        if at >= layer.places() {
-            return None;
-        }
-        Some(layer.arcs_at(at))
+        self.layer.as_ref()?.arc_count(v)
     }
 
     fn arc(&self, v: usize, i: usize) -> Option<Arc> {
-        let Some(layer) = &self.layer else {
-            return None;
-        };
-        let at = v / layer.moves.count;
-        let row = v % layer.moves.count;
-        if at < layer.below.size {
-            let e = layer.below.number(at, i)?;
-            return Some(layer.entering(e, row));
-        }
-        if at >= layer.places() {
-            return None;
-        }
-        layer.leaving(at - layer.below.size, row, i)
+        self.layer.as_ref()?.arc(v, i)
     }
 }

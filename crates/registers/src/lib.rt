@@ -5,8 +5,11 @@ mod answers;
 mod copied;
 mod copying;
 mod moves;
+mod position;
 mod registers;
-mod step;
+mod row_moves;
+mod shape;
+mod spot;
 mod tables;
 
 pub use registers::Registers;

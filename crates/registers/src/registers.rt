@@ -8,7 +8,7 @@ use super::moves::Moves;
 pub(crate) struct Layer {
     pub(crate) below: Copied,
     pub(crate) moves: Moves,
-    ghost same: { moves.top ≡ below.top },
+    ghost same: { moves.shape.top ≡ below.top },
 }
 
 // The registers over an arena; `None` where it is too large for them, or their number is not from 1 to 5.

@@ -1,7 +1,7 @@
 -- Binomials, and a table of them: the rule of the table is tested over all of its entries by one computation.
-use Rattle.std.proofs.Common.{◌≡◌, ℕ, zero, suc, ◌+◌, ◌-◌, ◌*◌, ◌%◌, ◌<◌, ◌≤◌, true, eqb, ltb, List, [], ◌∷◌, length, get_or, sym, refl, ap, ◌∙◌, add-zero, arith}
-use Rattle.std.proofs.lemmas.Bool.{and_parts, eqb-true, cond-true, cond-false, eq-eqb, ne_eqb, lt-ltb, le-ltb}
-use Rattle.rows.specs.Choose.{choose, rule, keeps}
+use Rattle.std.proofs.Common.{◌≡◌, ℕ, zero, suc, ◌+◌, ◌<◌, ◌≤◌, true, eqb, List, [], ◌∷◌, length, get_or, sym, refl, ap, ◌∙◌, add-zero, zero-add, arith}
+use Rattle.std.proofs.lemmas.Bool.{and_parts, eqb-true}
+use Rattle.rows.specs.Choose.{choose, rule, row_keeps, keeps}
 
 pub choose_over : (a b : ℕ) → a < b → choose a b ≡ 0
 choose_over a zero h = omega arith
@@ -18,36 +18,47 @@ pub choose_all : (n : ℕ) → choose n n ≡ 1
 choose_all zero = refl
 choose_all (suc n) = let l = choose_all n in let r = choose_over n (suc n) (omega arith) in omega arith
 
-rule_same : (xs : List ℕ) (m n : ℕ) → m ≡ n → rule xs m ≡ rule xs n
-rule_same xs m n e = ap (λ k. rule xs k) e
+-- a row that keeps the rule ends before column 16, and has what the rule says in each
+row_length : (above : List ℕ) (b : ℕ) (ys : List ℕ) → row_keeps above b ys ≡ true → b + length ys ≡ 16
+row_length above b [] t = let e = eqb-true b 16 t in omega arith
+row_length above b (y ∷ ys) t =
+    let e = row_length above (suc b) ys (and_parts (eqb y (rule above b)) (row_keeps above (suc b) ys) t).1 in omega arith
 
-kept_at : (xs : List ℕ) (k : ℕ) (ys : List ℕ) → keeps xs k ys ≡ true →
-    (i : ℕ) → i < length ys → get_or ys i 0 ≡ rule xs (k + i)
-kept_at xs k [] t i h = omega arith
-kept_at xs k (y ∷ ys) t zero h =
-    eqb-true y (rule xs k) (and_parts (eqb y (rule xs k)) (keeps xs (suc k) ys) t).0 ∙ ap (λ n. rule xs n) (sym (add-zero k))
-kept_at xs k (y ∷ ys) t (suc i) h =
-    kept_at xs (suc k) ys (and_parts (eqb y (rule xs k)) (keeps xs (suc k) ys) t).1 i (omega arith) ∙
-    rule_same xs (suc k + i) (k + suc i) (omega arith)
+row_at : (above : List ℕ) (b : ℕ) (ys : List ℕ) → row_keeps above b ys ≡ true →
+    (i : ℕ) → i < length ys → get_or ys i 0 ≡ rule above (b + i)
+row_at above b [] t i h = absurd (omega arith)
+row_at above b (y ∷ ys) t zero h =
+    eqb-true y (rule above b) (and_parts (eqb y (rule above b)) (row_keeps above (suc b) ys) t).0 ∙ ap (λ n. rule above n) (sym (add-zero b))
+row_at above b (y ∷ ys) t (suc i) h =
+    row_at above (suc b) ys (and_parts (eqb y (rule above b)) (row_keeps above (suc b) ys) t).1 i (omega arith) ∙
+    ap (λ n. rule above n) (omega arith)
 
-module _ (xs : List ℕ) (test : keeps xs 0 xs ≡ true) (whole : length xs ≡ 256) where
-  at : (k : ℕ) → k < 256 → get_or xs k 0 ≡ rule xs k
-  at k h = kept_at xs 0 xs test k (omega arith) ∙ rule_same xs (0 + k) k (omega arith)
+-- the row xs has the binomials C(n, b), and the row below one that has them has the next ones
+abbrev Gives : ℕ → List ℕ → Type 0
+Gives n xs = (b : ℕ) → b ≤ 15 → get_or xs b 0 ≡ choose n b
 
-  -- the entry in row a and column b is the binomial
-  pub entry_is : (a b : ℕ) → a ≤ 15 → b ≤ 15 → get_or xs (16 * a + b) 0 ≡ choose a b
-  entry_is a zero ha hb =
-      at (16 * a + 0) (omega arith) ∙ cond-true (eqb ((16 * a + 0) % 16) 0) 1 _ (eq-eqb ((16 * a + 0) % 16) 0 (omega arith))
-  entry_is zero (suc b) ha hb =
-      at (16 * 0 + suc b) (omega arith) ∙
-      cond-false (eqb ((16 * 0 + suc b) % 16) 0) 1 _ (ne_eqb ((16 * 0 + suc b) % 16) 0 (omega arith)) ∙
-      cond-true (ltb (16 * 0 + suc b) 16) 0 _ (lt-ltb (16 * 0 + suc b) 16 (omega arith))
-  entry_is (suc a) (suc b) ha hb =
-      let k : ℕ = 16 * suc a + suc b in
-      let left : get_or xs (k - 17) 0 ≡ choose a b = ap (λ n. get_or xs n 0) (omega arith) ∙ entry_is a b (omega arith) (omega arith) in
-      let above : get_or xs (k - 16) 0 ≡ choose a (suc b) = ap (λ n. get_or xs n 0) (omega arith) ∙ entry_is a (suc b) (omega arith) hb in
-      let sum : get_or xs k 0 ≡ get_or xs (k - 17) 0 + get_or xs (k - 16) 0 =
-      at k (omega arith) ∙
-      cond-false (eqb (k % 16) 0) 1 _ (ne_eqb (k % 16) 0 (omega arith)) ∙
-      cond-false (ltb k 16) 0 _ (le-ltb k 16 (omega arith)) in
-      omega arith
+rule_below : (n : ℕ) (above : List ℕ) → Gives n above → (b : ℕ) → b ≤ 15 → rule above b ≡ choose (suc n) b
+rule_below n above w zero h = refl
+rule_below n above w (suc b) h = let l = w b (omega arith) in let r = w (suc b) h in omega arith
+
+row_gives : (n : ℕ) (above xs : List ℕ) → row_keeps above 0 xs ≡ true → ((b : ℕ) → b ≤ 15 → rule above b ≡ choose n b) → Gives n xs
+row_gives n above xs t w b h =
+    let e = row_length above 0 xs t in row_at above 0 xs t b (omega arith) ∙ ap (λ m. rule above m) (zero-add b) ∙ w b h
+
+-- so the rows of a table are the binomials, from row n on if the rule gives those of row n first
+rows_give : (n : ℕ) (above : List ℕ) (xss : List (List ℕ)) → keeps above xss ≡ true → ((b : ℕ) → b ≤ 15 → rule above b ≡ choose n b) →
+    (a : ℕ) → a < length xss → Gives (n + a) (get_or xss a [])
+rows_give n above [] t w a h = absurd (omega arith)
+rows_give n above (xs ∷ xss) t w zero h =
+    rw add-zero (row_gives n above xs (and_parts (row_keeps above 0 xs) (keeps xs xss) t).0 w)
+rows_give n above (xs ∷ xss) t w (suc a) h =
+    let parts = and_parts (row_keeps above 0 xs) (keeps xs xss) t in
+    let e : n + suc a ≡ suc n + a = omega arith in
+    rw e (rows_give (suc n) xs xss parts.1 (rule_below n xs (row_gives n above xs parts.0 w)) a (omega arith))
+
+none_above : (b : ℕ) → rule [] b ≡ choose 0 b
+none_above zero = refl
+none_above (suc b) = refl
+
+pub entry_is : (xss : List (List ℕ)) → keeps [] xss ≡ true → (a b : ℕ) → a < length xss → b ≤ 15 → get_or (get_or xss a []) b 0 ≡ choose a b
+entry_is xss t a b ha hb = rows_give 0 [] xss t (λ b h. none_above b) a ha b hb ∙ ap (λ m. choose m b) (zero-add a)

@@ -1,12 +1,28 @@
 -- From a number to its row: the contents are found one after the other, the largest first.
-use Rattle.std.proofs.Common.{◌≡◌, ℕ, zero, suc, ◌+◌, ◌-◌, ◌<◌, ◌≤◌, List, [], ◌∷◌, length, get_or, take, set, replicate, Some, sym, refl, ap, ◌∙◌, add-one, arith}
+use Rattle.std.proofs.Common.{◌≡◌, ℕ, zero, suc, ◌+◌, ◌-◌, ◌<◌, ◌≤◌, List, [], ◌∷◌, length, get_or, set, replicate, Option, Some, None, MatchOption, unwrap_or, sym, refl, ap, ◌∙◌, add-one, arith}
 use Rattle.std.specs.List.{slice_get}
-use Rattle.std.proofs.lemmas.List.{length-set, length-replicate, get_or-set_other, take-replicate}
+use Rattle.std.proofs.lemmas.List.{length-set, length-replicate, get_or-set_other}
 use Rattle.rows.specs.Choose.{choose}
 use Rattle.rows.specs.Rows.{IsRow, rows, formula}
 use Rattle.rows.proofs.Binomials.{choose_over, choose_both}
 use Rattle.rows.proofs.Numbering.{row_listed}
 use Rattle.rows.proofs.Held.{zeros_row}
+
+-- no more than k rows begin with less than n, if this is so up to each content below n
+no_more_before : (r k n : ℕ) → 1 ≤ r → ((c : ℕ) → c < n → choose (c + 1 + r - 1) r ≤ k) → choose (n + r - 1) r ≤ k
+no_more_before r k zero some h = let z = choose_over (0 + r - 1) r (omega arith) in omega arith
+no_more_before r k (suc n) some h =
+    let e = choose_both (n + 1 + r - 1) (suc n + r - 1) r r (omega arith) refl in
+    let l = h n (omega arith) in
+    omega arith
+
+-- so with less than the first content that is found, or than the top
+pub first_reached : (r k top : ℕ) (o : Option ℕ) → 1 ≤ r →
+    MatchOption o ((c : ℕ) → 0 ≤ c → c < top → choose (c + 1 + r - 1) r ≤ k)
+    (λ n. (0 ≤ n) × (n < top) × Unit {0} × ((c : ℕ) → 0 ≤ c → c < n → choose (c + 1 + r - 1) r ≤ k)) →
+    choose (unwrap_or o top + r - 1) r ≤ k
+first_reached r k top None some h = no_more_before r k top some (λ c l. h c (omega arith) l)
+first_reached r k top (Some n) some h = no_more_before r k n some (λ c l. h.3 c (omega arith) l)
 
 -- what stands before place i: the top before the first place
 abbrev pub bound : ℕ → List ℕ → ℕ → ℕ
@@ -51,12 +67,6 @@ formula_zeros (suc n) =
     let a : choose (0 + k) (suc k) ≡ 0 = choose_over (0 + k) (suc k) (omega arith) in
     omega arith
 
-take_set_under : (n : ℕ) (xs : List ℕ) (i c : ℕ) → i < n → take n (set xs i c) ≡ set (take n xs) i c
-take_set_under zero xs i c h = absurd (omega arith)
-take_set_under (suc n) [] i c h = refl
-take_set_under (suc n) (x ∷ xs) zero c h = refl
-take_set_under (suc n) (x ∷ xs) (suc i) c h = ap (λ ys. x ∷ ys) (take_set_under n xs i c (omega arith))
-
 -- i contents of row number k stand in zs, and the rest of the number is left for the others, which are 0 so far
 pub record Filling (r top k : ℕ) (zs : List ℕ) (i limit rest : ℕ) : Type 0 where
   pub whole : length zs ≡ r
@@ -65,6 +75,7 @@ pub record Filling (r top k : ℕ) (zs : List ℕ) (i limit rest : ℕ) : Type 0
   pub inside : rest < choose (limit + (r - i)) (r - i)
   pub ahead : (m : ℕ) → i ≤ m → get_or zs m 0 ≡ 0
   pub last : limit ≡ bound top zs i
+  pub under : limit ≤ top
 
 get_d_zeros : (n m : ℕ) → get_or {A = ℕ} (replicate n 0) m 0 ≡ 0
 get_d_zeros zero m = refl
@@ -79,6 +90,7 @@ filling_none r top k h = record {
   inside = (let e = choose_both (top + (r - 0)) (top + r) (r - 0) r (omega arith) (omega arith) in omega arith);
   ahead = λ m l. get_d_zeros r m;
   last = refl;
+  under = omega arith;
 }
 
 pub filling_more : (r top k : ℕ) (zs : List ℕ) (i limit rest c : ℕ) → i < r → Filling r top k zs i limit rest →
@@ -101,6 +113,7 @@ filling_more r top k zs i limit rest c h w under reached passed =
       inside = omega arith;
       ahead = λ n l. get_or-set_other zs i n c 0 (omega arith) ∙ w.ahead n (omega arith);
       last = sym (ap (λ n. bound top (set zs i c) n) (add-one i) ∙ bound_set top zs i c (omega arith));
+      under = (let u = w.under in omega arith);
     }
 
 pub filling_all : (r top k : ℕ) (zs : List ℕ) (i limit rest : ℕ) → r ≤ i → Filling r top k zs i limit rest → slice_get (rows r top) k ≡ Some zs
@@ -110,31 +123,3 @@ filling_all r top k zs i limit rest h w =
     let counted = w.counted in
     let e : formula zs ≡ k = omega arith in
     rw e at (row_listed r top zs w.row w.whole)
-
--- the same of the array in the code, with what keeps its numbers small
-pub record Stage (r top k : ℕ) (xs : List ℕ) (i limit rest : ℕ) : Type 0 where
-  pub some : 1 ≤ r
-  pub few : r ≤ 5
-  pub low : limit ≤ 10
-  pub array : length xs ≡ 5
-  pub filling : Filling r top k (take r xs) i limit rest
-
-pub stage_none : (r top k : ℕ) → 1 ≤ r → r ≤ 5 → top ≤ 10 → k < choose (top + r) r → Stage r top k (0 ∷ 0 ∷ 0 ∷ 0 ∷ 0 ∷ []) 0 top k
-stage_none r top k some few low inside = record {
-  some = some;
-  few = few;
-  low = low;
-  array = refl;
-  filling = rw (take-replicate {X = ℕ} r 5 0 few) (filling_none r top k inside);
-}
-
-pub stage_more : (r top k : ℕ) (xs : List ℕ) (i limit rest c : ℕ) → i < r → Stage r top k xs i limit rest →
-    c ≤ limit → choose (c + (r - i) - 1) (r - i) ≤ rest → rest < choose (c + (r - i)) (r - i) →
-    Stage r top k (set xs i c) (i + 1) c (rest - choose (c + (r - i) - 1) (r - i))
-stage_more r top k xs i limit rest c h w under reached passed = record {
-  some = w.some;
-  few = w.few;
-  low = (let l = w.low in omega arith);
-  array = length-set xs i c ∙ w.array;
-  filling = rw (take_set_under r xs i c h) (filling_more r top k (take r xs) i limit rest c h w.filling under reached passed);
-}

@@ -1,24 +1,25 @@
 -- Rows as the code holds them: the first n entries of an array.
-use Rattle.std.proofs.Common.{◌≡◌, ℕ, zero, suc, ◌+◌, ◌-◌, ◌<◌, ◌≤◌, max, true, leb, List, [], ◌∷◌, ◌++◌, map, length, get_or, take, drop, set, replicate, sym, ap, ◌∙◌, inl, inr, arith}
+use Rattle.std.proofs.Common.{◌≡◌, ℕ, zero, suc, ◌+◌, ◌-◌, ◌<◌, ◌≤◌, max, cond, true, Some, None, leb, List, [], ◌∷◌, ◌++◌, map, length, get_or, take, drop, set, replicate, sym, refl, ap, add-zero, zero-add, subst, ◌∙◌, inl, inr, arith}
 use mathlib.Core.Logic.{∥∥₁_elim}
-use Rattle.std.proofs.lemmas.List.{length-take-le, length-set, length-drop, get_or-take, get_or-set_same, get_or-set_other, take_at, length-map, length-append, take-append-drop, ext_get_or, drop_more, drop_all}
-use Rattle.std.proofs.lemmas.Bool.{cases_lt, cases_eq, and_from, and_parts, le-leb, leb-true}
+use Rattle.std.proofs.lemmas.List.{length-take-le, length-set, length-drop, take-set, drop-set-lt, get_or-take, get_or-set_same, take_at, length-map, get_or-map, take-map, length-append}
+use denote.Param.Members.{Mut, Called}
+use Rattle.std.specs.Array.{MapsFrom, IsMapOf}
+use Rattle.std.proofs.lemmas.Grind.{same_number_lists}
+use borrow.Rule.Slice.PartMut.{put_mid}
+use Rattle.std.specs.List.{remove, range_with_len, sum}
+use Rattle.std.proofs.lemmas.List.Sums.{sum_by-cons}
+use Rattle.std.proofs.lemmas.Slice.{put_mid-rotated}
+use Rattle.std.proofs.lemmas.Bool.{cases_Bool, cond-true, cond-false, cases_eq, and_from, and_parts, le-leb, leb-true}
 use Rattle.rows.specs.Choose.{choose}
 use Rattle.rows.specs.Rows.{IsRow, formula}
-use Rattle.rows.specs.Registers.{content, updated, reset}
-use Rattle.rows.specs.Views.{some_registers, in_range, has_register}
-use Rattle.rows.proofs.Binomials.{choose_over, choose_both}
+use Rattle.rows.specs.Registers.{updated, reset}
+use Rattle.rows.specs.Views.{some_registers, has_register}
+use Rattle.rows.proofs.Binomials.{choose_both}
 use Rattle.rows.proofs.Numbering.{row_is_prop}
-use Rattle.rows.proofs.Moving.{length_reset, reset_at_end, reset_moved_up, reset_left_alone}
+use Rattle.rows.proofs.Moving.{updated_row, reset_row, length_reset}
 
 pub row_told : (t : ℕ) (xs : List ℕ) → ∥ IsRow t xs ∥₁ → IsRow t xs
 row_told t xs h = ∥∥₁_elim h (row_is_prop t xs) (λ row. row)
-
--- no content of a row is larger than its top
-pub row_each : (t : ℕ) (xs : List ℕ) (i : ℕ) → IsRow t xs → get_or xs i 0 ≤ t
-row_each t [] i row = omega arith
-row_each t (x ∷ xs) zero row = row.0
-row_each t (x ∷ xs) (suc i) row = let l = row.0 in let h = row_each x xs i row.1 in omega arith
 
 pub zeros_row : (t n : ℕ) → IsRow t (replicate n 0)
 zeros_row t zero = tt
@@ -27,113 +28,93 @@ zeros_row t (suc n) = (omega arith, zeros_row 0 n)
 pub registers_true : (r : ℕ) → 1 ≤ r → r ≤ 5 → some_registers r ≡ true
 registers_true r h k = and_from (leb 1 r) (leb r 5) (le-leb 1 r h) (le-leb r 5 k)
 
-pub range_parts : (r top : ℕ) → in_range r top ≡ true → (1 ≤ r) × (r ≤ 5) × (top ≤ 10)
-range_parts r top e =
-    let h = and_parts (some_registers r) (leb top 10) e in
-    let k = and_parts (leb 1 r) (leb r 5) h.0 in
-    (leb-true 1 r k.0, leb-true r 5 k.1, leb-true top 10 h.1)
-
-module _ (n : ℕ) (xs : List ℕ) (fits : n ≤ length xs) where
-  pub held_length : length (take n xs) ≡ n
-  held_length = length-take-le n xs fits
-
-  pub has_true : (j : ℕ) → 1 ≤ j → j ≤ n → has_register j (take n xs) ≡ true
-  has_true j h k =
-      let e = held_length in
-      and_from (leb 1 j) (leb j (length (take n xs))) (le-leb 1 j h) (le-leb j (length (take n xs)) (omega arith))
-
-  pub held_content : (j : ℕ) → 1 ≤ j → j ≤ n → get_or xs (n - j) 0 ≡ content j (take n xs)
-  held_content j h k = rw held_length (sym (get_or-take n xs (n - j) 0 (omega arith)))
-
--- the entries from s to i moved up by one place, the others as they were
-pub record Shifted (xs ys : List ℕ) (s i : ℕ) : Type 0 where
-  pub whole : length ys ≡ length xs
-  pub moved : (m : ℕ) → s ≤ m → m < i → get_or ys m 0 ≡ get_or xs (m + 1) 0
-  pub before : (m : ℕ) → m < s → get_or ys m 0 ≡ get_or xs m 0
-  pub ahead : (m : ℕ) → i ≤ m → get_or ys m 0 ≡ get_or xs m 0
-
-pub shifted_more : (xs ys : List ℕ) (s i : ℕ) → s ≤ i → i < length ys → Shifted xs ys s i → Shifted xs (set ys i (get_or ys (i + 1) 0)) s (i + 1)
-shifted_more xs ys s i h l w = record {
-  whole = length-set ys i (get_or ys (i + 1) 0) ∙ w.whole;
-  moved = λ m a b. elim (cases_eq m i) [
-    | inl e ↦ rw e (get_or-set_same ys i (get_or ys (i + 1) 0) 0 l ∙ w.ahead (i + 1) (omega arith))
-    | inr e ↦ get_or-set_other ys i m (get_or ys (i + 1) 0) 0 e ∙ w.moved m a (omega arith)
-  ];
-  before = λ m a. get_or-set_other ys i m (get_or ys (i + 1) 0) 0 (omega arith) ∙ w.before m a;
-  ahead = λ m a. get_or-set_other ys i m (get_or ys (i + 1) 0) 0 (omega arith) ∙ w.ahead m (omega arith);
-}
-
--- with a 0 in the last place that is the reset
-pub shifted_all : (n j i : ℕ) (xs ys : List ℕ) → n ≤ length xs → 1 ≤ j → j ≤ n → n - 1 ≤ i → Shifted xs ys (n - j) i →
-    take n (set ys (n - 1) 0) ≡ reset j (take n xs)
-shifted_all n j i xs ys fits h k end w =
-    let e = held_length n xs fits in
-    let e' = length-set ys (n - 1) 0 in
-    let whole = w.whole in
-    let f = held_length n (set ys (n - 1) 0) (omega arith) in
-    let g = length_reset j (take n xs) h (omega arith) in
-    ext_get_or 0 (take n (set ys (n - 1) 0)) (reset j (take n xs)) (omega arith) (λ m l.
-    get_or-take n (set ys (n - 1) 0) m 0 (omega arith) ∙
-    elim (cases_eq m (n - 1)) [
-      | inl at ↦
-          rw (at) (get_or-set_same ys (n - 1) 0 0 (omega arith) ∙ sym (reset_at_end j (take n xs) h (omega arith) (n - 1) (omega arith)))
-      | inr apart ↦ get_or-set_other ys (n - 1) m 0 0 apart ∙ elim (cases_lt m (n - j)) [
-        | inl low ↦
-            w.before m low ∙ sym (get_or-take n xs m 0 (omega arith)) ∙
-            sym (reset_left_alone j (take n xs) h (omega arith) m (omega arith))
-        | inr high ↦
-            w.moved m high (omega arith) ∙ sym (get_or-take n xs (m + 1) 0 (omega arith)) ∙
-            sym (reset_moved_up j (take n xs) h (omega arith) m (omega arith) (omega arith))
+-- an array that a closure makes of another, where each call gives h of its entry and leaves the closure as it was
+module _ {F : Type 0} (g : Mut F (ℕ × Unit {0}) ℕ) (h : ℕ → ℕ) (f : F) (xs ys : List ℕ)
+    (calls : (x y : ℕ) (q : F) → Called g f (x, tt) y q → (q ≡ f) × (y ≡ h x)) where
+  mapped_at : (i n : ℕ) → MapsFrom g f xs ys i n → (k : ℕ) → i ≤ k → k < i + n → get_or ys k 0 ≡ h (get_or xs k 0)
+  mapped_at i zero m k low high = absurd (omega arith)
+  mapped_at i (suc n) m k low high =
+      let called = calls m.1 m.2 m.0 m.5 in elim (cases_eq k i) [
+        | inl at ↦ rw at (m.4.1 0 ∙ called.1 ∙ ap h (sym (m.3.1 0)))
+        | inr on ↦ mapped_at (i + 1) n (subst (λ q. MapsFrom g q xs ys (i + 1) n) called.0 m.6) k (omega arith) (omega arith)
       ]
-    ])
 
-pub held_low : (n : ℕ) (xs : List ℕ) (i : ℕ) → ∥ IsRow 10 (take n xs) ∥₁ → i < n → get_or xs i 0 ≤ 10
-held_low n xs i row h =
-    let l = row_each 10 (take n xs) i (row_told 10 (take n xs) row) in
-    let e = get_or-take n xs i 0 h in
-    omega arith
+  pub mapped : (n : ℕ) → IsMapOf g f xs ys n → length xs ≡ n → ys ≡ map h xs
+  mapped n w e =
+      let long = w.long in
+      let l = length-map xs h in
+      same_number_lists ys (map h xs) (omega arith) (λ k within. mapped_at 0 n w.each k (omega arith) (omega arith) ∙ sym (get_or-map h xs k 0 0 (omega arith)))
 
--- the sum by the formula, from register 1 up: over none, one more, and all
-pub formula_none : (n : ℕ) (xs : List ℕ) → n ≤ length xs → formula (drop (n - 0) (take n xs)) ≡ 0
-formula_none n xs fits = let e = held_length n xs fits in ap formula (drop_all (n - 0) (take n xs) (omega arith))
+-- so for the row after an update
+pub updated_held : (n p : ℕ) (xs ys : List ℕ) → n ≤ length xs → p ≤ 10 → ∥ IsRow 10 (take n xs) ∥₁ → ys ≡ map (λ c. max c p) xs →
+    ∥ IsRow 10 (take n ys) ∥₁ × (Some (take n ys) ≡ cond (leb p 10) (Some (updated p (take n xs))) None)
+updated_held n p xs ys fits low row e =
+    let new : take n ys ≡ updated p (take n xs) = rw e (take-map (λ c. max c p) n xs) in (
+      ∣ rw new (updated_row 10 p (take n xs) (row_told 10 (take n xs) row) low) ∣₁,
+      ap Some new ∙ sym (cond-true (leb p 10) _ _ (le-leb p 10 low)),
+    )
 
-pub formula_more : (n : ℕ) (xs : List ℕ) (i : ℕ) → n ≤ length xs → i < n →
-    formula (drop (n - (i + 1)) (take n xs)) ≡ choose (get_or xs (n - (i + 1)) 0 + (i + 1) - 1) (i + 1) + formula (drop (n - i) (take n xs))
-formula_more n xs i fits h =
-    let zs : List ℕ = take n xs in
-    let k : ℕ = n - (i + 1) in
-    let e = held_length n xs fits in
-    let here = get_or-take n xs k 0 (omega arith) in
-    let left = length-drop (k + 1) zs in
-    let same : choose (get_or zs k 0 + length (drop (k + 1) zs)) (suc (length (drop (k + 1) zs))) ≡ choose (get_or xs k 0 + (i + 1) - 1) (i + 1) =
-    choose_both (get_or zs k 0 + length (drop (k + 1) zs)) (get_or xs k 0 + (i + 1) - 1) (suc (length (drop (k + 1) zs))) (i + 1) (omega arith) (omega arith) in
-    let next : k + 1 ≡ n - i = omega arith in
-    ap formula (drop_more zs k 0 (omega arith)) ∙
-    ap (λ m. m + formula (drop (k + 1) zs)) same ∙
-    ap (λ m. choose (get_or xs k 0 + (i + 1) - 1) (i + 1) + formula (drop m zs)) next
-
-pub formula_all : (n : ℕ) (xs : List ℕ) (i : ℕ) → n ≤ i → formula (drop (n - i) (take n xs)) ≡ formula (take n xs)
-formula_all n xs i h = let e : n - i ≡ 0 = omega arith in ap (λ x. formula (drop x (take n xs))) e
-
--- a content is not 0 where fewer than so many rows begin with less
-pub some_content : (c j k : ℕ) → 1 ≤ j → k < choose (c + j - 1) j → 1 ≤ c
-some_content c j k some h = elim (cases_lt 0 c) [
-  | inl l ↦ l
-  | inr l ↦ let z = choose_over (c + j - 1) j (omega arith) in omega arith
+-- a place that is found is that of a register
+pub place_found : (j n p : ℕ) (zs : List ℕ) → Some p ≡ cond (has_register j zs) (Some (n - j)) None →
+    (has_register j zs ≡ true) × (1 ≤ j) × (j ≤ length zs) × (p ≡ n - j)
+place_found j n p zs e = elim (cases_Bool (has_register j zs)) [
+  | inl t ↦
+      let parts = and_parts (leb 1 j) (leb j (length zs)) t in
+      let same = e ∙ cond-true (has_register j zs) (Some (n - j)) None t in
+      (t, leb-true 1 j parts.0, leb-true j (length zs) parts.1, cc)
+  | inr f ↦ let none = e ∙ cond-false (has_register j zs) (Some (n - j)) None f in absurd cc
 ]
 
--- a map over the first i entries, and over all n of the row
-pub updated_length : (p : ℕ) (xs ys : List ℕ) (i : ℕ) → ys ≡ map (λ c. max c p) (take i xs) ++ drop i xs → length ys ≡ length xs
-updated_length p xs ys i e =
-    ap length e ∙
-    (let a = length-append (map (λ c. max c p) (take i xs)) (drop i xs) in
-    let b = length-map (take i xs) (λ c. max c p) in
-    let d = length-append (take i xs) (drop i xs) in
-    let f = ap length (take-append-drop i xs) in
-    omega arith)
+-- with 0 at place p, the entries from there on turned by one place
+pub turned : (zs : List ℕ) (p : ℕ) (ys : List ℕ) → p < length zs →
+    (let from : List ℕ = set zs p 0 in
+    let k : ℕ = length from - p in
+    ys ≡ drop 1 (take k (drop p from)) ++ take 1 (take k (drop p from)) → put_mid p k from ys ≡ remove zs p ++ 0 ∷ [])
+turned zs p ys h e =
+    let same = length-set zs p 0 in
+    put_mid-rotated p (length (set zs p 0) - p) (set zs p 0) ys 0 (omega arith) (omega arith) e ∙
+    rw (take-set zs p 0, drop-set-lt (suc p) zs p 0 (omega arith), get_or-set_same zs p 0 0 h) refl
 
-pub updated_all : (n p : ℕ) (xs ys : List ℕ) (i : ℕ) → n ≤ length xs → i ≡ n → ys ≡ map (λ c. max c p) (take i xs) ++ drop i xs →
-    take n ys ≡ updated p (take n xs)
-updated_all n p xs ys i fits e f =
-    let g : ys ≡ map (λ c. max c p) (take n xs) ++ drop n xs = rw e at f in
-    rw g (take_at (map (λ c. max c p) (take n xs)) (drop n xs) n (length-map (take n xs) (λ c. max c p) ∙ held_length n xs fits))
+-- what the reset leaves: an array as long, whose first n entries are a row, that of the reset
+pub reset_held : (n j p : ℕ) (xs ys : List ℕ) → n ≤ length xs → ∥ IsRow 10 (take n xs) ∥₁ →
+    (let zs : List ℕ = take n xs in
+    let new : List ℕ = ys ++ drop n xs in
+    Some p ≡ cond (has_register j zs) (Some (n - j)) None →
+    ys ≡ remove zs p ++ 0 ∷ [] →
+    (length new ≡ length xs) × ∥ IsRow 10 (take n new) ∥₁ × (Some (take n new) ≡ cond (has_register j zs) (Some (reset j zs)) None))
+reset_held n j p xs ys fits row found e =
+    let zs : List ℕ = take n xs in
+    let at = place_found j n p zs found in
+    let some = at.1 in
+    let there = at.2 in
+    let whole = length-take-le n xs fits in
+    let place : p ≡ length zs - j = (let h = at.3 in omega arith) in
+    let l = length_reset j zs some there in
+    let new : ys ≡ reset j zs = rw (← place) e in
+    let left : take n (ys ++ drop n xs) ≡ reset j zs = rw new (take_at (reset j zs) (drop n xs) n (omega arith)) in (
+      rw new (omega (arith, length-append (reset j zs) (drop n xs), length-drop n xs)),
+      ∣ rw left (reset_row 10 j zs (row_told 10 zs row) some there) ∣₁,
+      ap Some left ∙ sym (cond-true (has_register j zs) _ _ at.0),
+    )
+
+-- the sum of what the contents add, from place k on, is the formula
+shares : (f : ℕ → ℕ) (k : ℕ) (cs : List ℕ) →
+    ((i : ℕ) → i < length cs → f (k + i) ≡ choose (get_or cs i 0 + (length cs - i) - 1) (length cs - i)) →
+    sum (map f (range_with_len k (length cs))) ≡ formula cs
+shares f k [] h = refl
+shares f k (c ∷ cs) h =
+    let n : ℕ = length cs in
+    let rest = shares f (k + 1) cs (λ i l. ap f (omega arith) ∙ h (suc i) (omega arith) ∙ choose_both _ _ _ _ (omega arith) (omega arith)) in
+    let first : f k ≡ choose (c + n) (suc n) =
+    ap f (sym (add-zero k)) ∙ h 0 (omega arith) ∙ choose_both (c + (suc n - 0) - 1) (c + n) (suc n - 0) (suc n) (omega arith) (omega arith) in
+    omega (arith, sum_by-cons (λ (x : ℕ). x) (f k) (map f (range_with_len (k + 1) n)))
+
+pub formula_held : (n : ℕ) (xs : List ℕ) → n ≤ length xs →
+    sum (map (λ i. choose (get_or xs i 0 + (n - i) - 1) (n - i)) (range_with_len 0 n)) ≡ formula (take n xs)
+formula_held n xs fits =
+    let f : ℕ → ℕ = λ i. choose (get_or xs i 0 + (n - i) - 1) (n - i) in
+    let whole = length-take-le n xs fits in
+    ap (λ m. sum (map f (range_with_len 0 m))) (sym whole) ∙
+    shares f 0 (take n xs) (λ i l.
+    let e = get_or-take n xs i 0 (omega arith) in
+    ap f (zero-add i) ∙ choose_both _ _ _ _ (omega arith) (omega arith))

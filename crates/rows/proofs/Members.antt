@@ -1,18 +1,16 @@
 -- What stands where in a list, and lists in dictionary order.
-use Rattle.std.proofs.Common.{◌≡◌, ℕ, zero, suc, ◌+◌, ◌<◌, ◌≤◌, true, false, eqb, ◌⊎◌, List, [], ◌∷◌, ◌++◌, map, length, Some, sym, refl, ap, ◌∙◌, inl, inr, arith}
+use Rattle.std.proofs.Common.{◌≡◌, ℕ, zero, suc, ◌+◌, ◌≤◌, nat_eq, ◌⊎◌, List, [], ◌∷◌, ◌++◌, map, length, Decides, Some, option_map, sym, refl, ap, ◌∙◌, inl, inr, arith}
 use Rattle.std.specs.List.{slice_get}
-use Rattle.std.proofs.lemmas.Bool.{and_parts, and_from, eqb-true, eq-eqb, cases_Bool, both_ways, cond-true, cond-false}
-use Rattle.game.proofs.Arcs.{none_is_not_some, some_same}
+use Rattle.std.proofs.lemmas.Bool.{cases_Bool, cond-true, cond-false}
+use Rattle.std.proofs.lemmas.Option.{same_Some, slice_get-map}
 use Rattle.game.specs.Dictionary.{Before}
-use Rattle.rows.specs.Rows.{same, place}
-
-pub nth_there : {X : Type 0} (xs : List X) (i : ℕ) (x : X) → slice_get xs i ≡ Some x → i < length xs
-nth_there [] i x e = absurd (none_is_not_some x e)
-nth_there (y ∷ xs) zero x e = omega arith
-nth_there (y ∷ xs) (suc i) x e = let h = nth_there xs i x e in omega arith
+use Rattle.std.specs.Cmp.Lexicographic.{pointwise}
+use Rattle.std.proofs.lemmas.Slice.Eq.{slice_eq-Decides}
+use Rattle.std.proofs.lemmas.Bool.Decides.{Decides-eqb}
+use Rattle.rows.specs.Rows.{place}
 
 pub nth_left : {X : Type 0} (xs ys : List X) (i : ℕ) (x : X) → slice_get xs i ≡ Some x → slice_get (xs ++ ys) i ≡ Some x
-nth_left [] ys i x e = absurd (none_is_not_some x e)
+nth_left [] ys i x e = absurd cc
 nth_left (y ∷ xs) ys zero x e = e
 nth_left (y ∷ xs) ys (suc i) x e = nth_left xs ys i x e
 
@@ -32,44 +30,30 @@ nth_joined (y ∷ xs) ys (suc i) x e = elim (nth_joined xs ys i x e) [
 ]
 
 pub nth_map : {X Y : Type 0} (f : X → Y) (xs : List X) (i : ℕ) (x : X) → slice_get xs i ≡ Some x → slice_get (map f xs) i ≡ Some (f x)
-nth_map f [] i x e = absurd (none_is_not_some x e)
-nth_map f (y ∷ xs) zero x e = ap (λ z. Some (f z)) (some_same y x e)
-nth_map f (y ∷ xs) (suc i) x e = nth_map f xs i x e
+nth_map f xs i x e = slice_get-map f xs i ∙ ap (option_map f) e
 
 pub nth_mapped : {X Y : Type 0} (f : X → Y) (xs : List X) (i : ℕ) (y : Y) → slice_get (map f xs) i ≡ Some y →
     (x : X) × (slice_get xs i ≡ Some x) × (y ≡ f x)
-nth_mapped f [] i y e = absurd (none_is_not_some y e)
-nth_mapped f (x ∷ xs) zero y e = (x, refl, sym (some_same (f x) y e))
+nth_mapped f [] i y e = absurd cc
+nth_mapped f (x ∷ xs) zero y e = (x, refl, sym (same_Some (f x) y e))
 nth_mapped f (x ∷ xs) (suc i) y e = nth_mapped f xs i y e
 
-pub same_itself : (xs : List ℕ) → same xs xs ≡ true
-same_itself [] = refl
-same_itself (x ∷ xs) = and_from (eqb x x) (same xs xs) (eq-eqb x x refl) (same_itself xs)
-
-pub same_true : (xs ys : List ℕ) → same xs ys ≡ true → xs ≡ ys
-same_true [] [] e = refl
-same_true [] (y ∷ ys) e = absurd (both_ways false refl e)
-same_true (x ∷ xs) [] e = absurd (both_ways false refl e)
-same_true (x ∷ xs) (y ∷ ys) e =
-    let h = and_parts (eqb x y) (same xs ys) e in
-    let heads = eqb-true x y h.0 in
-    let tails = same_true xs ys h.1 in
-    cc
+same_is : (xs ys : List ℕ) → Decides (pointwise nat_eq xs ys) (xs ≡ ys)
+same_is xs ys = slice_eq-Decides Decides-eqb xs ys _ refl
 
 -- the place of a member is the first at which it stands
 pub place_finds : (L : List (List ℕ)) (xs : List ℕ) (k : ℕ) → slice_get L k ≡ Some xs →
     (place xs L ≤ k) × (slice_get L (place xs L) ≡ Some xs)
-place_finds [] xs k e = absurd (none_is_not_some xs e)
+place_finds [] xs k e = absurd cc
 place_finds (ys ∷ L) xs zero e =
-    let here : place xs (ys ∷ L) ≡ 0 =
-    cond-true (same xs ys) 0 _ (ap (λ zs. same xs zs) (some_same ys xs e) ∙ same_itself xs) in
+    let here : place xs (ys ∷ L) ≡ 0 = cond-true (pointwise nat_eq xs ys) 0 _ ((same_is xs ys).1 (sym (same_Some ys xs e))) in
     rw here (omega arith, e)
-place_finds (ys ∷ L) xs (suc k) e = elim (cases_Bool (same xs ys)) [
+place_finds (ys ∷ L) xs (suc k) e = elim (cases_Bool (pointwise nat_eq xs ys)) [
   | inl t ↦
-      let here : place xs (ys ∷ L) ≡ 0 = cond-true (same xs ys) 0 _ t in
-      rw here (omega arith, ap Some (sym (same_true xs ys t)))
+      let here : place xs (ys ∷ L) ≡ 0 = cond-true (pointwise nat_eq xs ys) 0 _ t in
+      rw here (omega arith, ap Some (sym ((same_is xs ys).0 t)))
   | inr f ↦
-      let on : place xs (ys ∷ L) ≡ suc (place xs L) = cond-false (same xs ys) 0 _ f in
+      let on : place xs (ys ∷ L) ≡ suc (place xs L) = cond-false (pointwise nat_eq xs ys) 0 _ f in
       let h = place_finds L xs k e in
       rw on (omega arith, h.1)
 ]

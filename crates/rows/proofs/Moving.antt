@@ -76,13 +76,10 @@ module _ (j : ℕ) (xs : List ℕ) (some : 1 ≤ j) (there : j ≤ length xs) wh
           sym (cond-true (leb i j) _ (content i xs) (le-leb i j below) ∙ cond-true (eqb i 1) 0 _ (eq-eqb i 1 one))
       | inr more ↦
           reset_moved_up (length xs - i) (omega arith) (omega arith) ∙
-          get_d_same xs (length xs - i + 1) (length xs - (i - 1)) (omega arith) ∙
+          ap (λ m. get_or xs m 0) (omega arith) ∙
           sym (cond-true (leb i j) _ (content i xs) (le-leb i j below) ∙ cond-false (eqb i 1) 0 _ (ne_eqb i 1 more))
     ]
   ])
-    where
-      get_d_same : (zs : List ℕ) (m n : ℕ) → m ≡ n → get_or zs m 0 ≡ get_or zs n 0
-      get_d_same zs m n e = ap (λ x. get_or zs x 0) e
 
 pub contents_moved_lem : ContentsMoved
 contents_moved_lem p i xs h l = (

@@ -5,13 +5,13 @@ use native.Mathlib.Bridge.{le_prop}
 use Rattle.std.specs.List.{slice_get}
 use Rattle.std.proofs.lemmas.List.{length-append, length-map}
 use Rattle.std.proofs.lemmas.Bool.{cases_lt, cases_order}
-use Rattle.game.proofs.Arcs.{none_is_not_some, some_same}
+use Rattle.std.proofs.lemmas.Option.{same_Some, slice_get_within}
 use Rattle.game.specs.Dictionary.{Before}
 use Rattle.rows.specs.Choose.{choose}
 use Rattle.rows.specs.Rows.{IsRow, rows, place, formula}
 use Rattle.rows.specs.Theorems.{RowsListed, RowsAscend, RowsCounted, RowsNumbered}
 use Rattle.rows.proofs.Binomials.{choose_over, choose_all, choose_both}
-use Rattle.rows.proofs.Members.{nth_there, nth_left, nth_right, nth_joined, nth_map, nth_mapped, place_finds, before_not_itself, before_not_both}
+use Rattle.rows.proofs.Members.{nth_left, nth_right, nth_joined, nth_map, nth_mapped, place_finds, before_not_itself, before_not_both}
 
 pub row_is_prop : (t : ℕ) (xs : List ℕ) → IsProp (IsRow t xs)
 row_is_prop t [] = λ a b. refl
@@ -40,8 +40,8 @@ rows_counted_lem (suc r) (suc t) =
 
 -- what stands in the list is a row
 pub listed_row : (r t k : ℕ) (xs : List ℕ) → slice_get (rows r t) k ≡ Some xs → IsRow t xs × (length xs ≡ r)
-listed_row zero t zero xs e = rw (← some_same [] xs e) (tt, refl)
-listed_row zero t (suc k) xs e = absurd (none_is_not_some xs e)
+listed_row zero t zero xs e = rw (← same_Some [] xs e) (tt, refl)
+listed_row zero t (suc k) xs e = absurd cc
 listed_row (suc r) zero k xs e =
     let m = nth_mapped (λ xs. zero ∷ xs) (rows r zero) k xs e in
     let h = listed_row r zero k m.0 m.1 in
@@ -60,7 +60,7 @@ row_before t (x ∷ xs) ys row = let l = row.0 in inl (omega arith)
 
 pub rows_ascending : (r t i j : ℕ) (xs ys : List ℕ) → slice_get (rows r t) i ≡ Some xs → slice_get (rows r t) j ≡ Some ys → i < j → Before xs ys
 rows_ascending zero t i zero xs ys e f h = absurd (omega arith)
-rows_ascending zero t i (suc j) xs ys e f h = absurd (none_is_not_some ys f)
+rows_ascending zero t i (suc j) xs ys e f h = absurd cc
 rows_ascending (suc r) zero i j xs ys e f h =
     let m = nth_mapped (λ xs. zero ∷ xs) (rows r zero) i xs e in
     let n = nth_mapped (λ xs. zero ∷ xs) (rows r zero) j ys f in
@@ -74,7 +74,7 @@ rows_ascending (suc r) (suc t) i j xs ys e f h =
             rw n.2 (row_before t xs n.0 (listed_row (suc r) t i xs a).0)
       ]
       | inr a ↦ elim (nth_joined (rows (suc r) t) (map (λ xs. suc t ∷ xs) (rows r (suc t))) j ys f) [
-        | inl b ↦ let l = nth_there (rows (suc r) t) j ys b in let g = a.1 in absurd (omega arith)
+        | inl b ↦ let l = slice_get_within (rows (suc r) t) j ys b in let g = a.1 in absurd (omega arith)
         | inr b ↦
             let m = nth_mapped (λ xs. suc t ∷ xs) (rows r (suc t)) a.0 xs a.2 in
             let n = nth_mapped (λ xs. suc t ∷ xs) (rows r (suc t)) b.0 ys b.2 in
@@ -127,7 +127,7 @@ rows_listed_lem r t xs = (λ m. listed_row r t m.0 xs m.1, λ h. (formula xs, ro
 pub rows_ascend_lem : RowsAscend
 rows_ascend_lem r t i j xs ys e f = (
   λ b. elim (cases_order i j) [
-    | inl h ↦ absurd (before_not_itself ys (rw (some_same xs ys (sym e ∙ ap (λ n. slice_get (rows r t) n) h ∙ f)) at b))
+    | inl h ↦ absurd (before_not_itself ys (rw (same_Some xs ys (sym e ∙ ap (λ n. slice_get (rows r t) n) h ∙ f)) at b))
     | inr (inl h) ↦ h
     | inr (inr h) ↦ absurd (before_not_both xs ys b (rows_ascending r t j i ys xs f e h))
   ],

@@ -1,5 +1,6 @@
 -- Rows: what r registers hold, and their list, which numbers them.
-use Rattle.std.specs.Prelude.{ℕ, zero, suc, ◌+◌, ◌≤◌, Bool, true, false, cond, ◌&&◌, List, [], ◌∷◌, ◌++◌, map, length, ◌==◌}
+use Rattle.std.specs.Prelude.{ℕ, zero, suc, ◌+◌, ◌≤◌, cond, nat_eq, List, [], ◌∷◌, ◌++◌, map, length}
+use Rattle.std.specs.Cmp.Lexicographic.{pointwise}
 use Rattle.rows.specs.Choose.{choose}
 
 -- A row: contents from 0 to top, that of the last register first, none larger than the one before it.
@@ -14,17 +15,10 @@ rows zero top = [] ∷ []
 rows (suc r) zero = map (λ xs. zero ∷ xs) (rows r zero)
 rows (suc r) (suc t) = rows (suc r) t ++ map (λ xs. suc t ∷ xs) (rows r (suc t))
 
--- The two lists are the same.
-abbrev pub same : List ℕ → List ℕ → Bool
-same [] [] = true
-same [] (y ∷ ys) = false
-same (x ∷ xs) [] = false
-same (x ∷ xs) (y ∷ ys) = x == y && same xs ys
-
 -- The number of a row is its place in the list of rows: how many stand before it.
 abbrev pub place : List ℕ → List (List ℕ) → ℕ
 place xs [] = 0
-place xs (ys ∷ rest) = cond (same xs ys) 0 (suc (place xs rest))
+place xs (ys ∷ rest) = cond (pointwise nat_eq xs ys) 0 (suc (place xs rest))
 
 -- The number by a formula: the sum, over the registers j, of the ways to choose j things among c + j - 1, where c is the content.
 abbrev pub formula : List ℕ → ℕ

@@ -1,5 +1,5 @@
 -- The row that the code holds, as a list, and what may be asked for.
-use Rattle.std.specs.Prelude.{ℕ, ◌+◌, Bool, ◌&&◌, List, length, take, Some, None, Option, nat_le, nat_lt}
+use Rattle.std.specs.Prelude.{ℕ, ◌+◌, Bool, ◌&&◌, List, length, take, Option, option_map, nat_le, nat_lt}
 use Rattle.rows.specs.Choose.{choose}
 use Rattle.rows.specs.declared.row.Row.{Row}
 
@@ -9,8 +9,7 @@ contents_of s = take s.registers s.contents
 
 -- The contents of a row that may be absent.
 abbrev pub found : Option Row → Option (List ℕ)
-found None = None
-found (Some s) = Some (contents_of s)
+found o = option_map contents_of o
 
 -- Rows have 1 to 5 registers and contents up to 10.
 abbrev pub some_registers : ℕ → Bool

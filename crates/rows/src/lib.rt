@@ -1,8 +1,8 @@
 // Rows of registers: their numbering, and what updates and resets do to them.
 #![tactic(auto)]
 
-ghost use Rattle.std.specs.Prelude.{◌≡◌, ℕ, ◌+◌, ◌-◌, ◌^◌, ◌<◌, ◌≤◌, true, length, replicate, if◌then◌else◌, Some, None, nat_le, slice_index};
-ghost use Rattle.std.specs.List.{slice_get};
+ghost use Rattle.std.specs.Prelude.{◌≡◌, ℕ, [], ◌∷◌, ◌++◌, ◌+◌, ◌-◌, ◌^◌, ◌<◌, ◌≤◌, if◌then◌else◌, length, replicate, Some, None, nat_le, slice_index};
+ghost use Rattle.std.specs.List.{remove, slice_get};
 ghost use Rattle.rows.specs.Choose.{choose};
 ghost use Rattle.rows.specs.Rows.{IsRow, rows, place};
 ghost use Rattle.rows.specs.Registers.{content, updated, reset, reset_priority};
@@ -10,37 +10,28 @@ ghost use Rattle.rows.specs.Views.{contents_of, found, some_registers, in_range,
 ghost use Rattle.rows.specs.Theorems.{RowsListed, RowsAscend, RowsCounted, RowsNumbered, RowsKept, ContentsMoved};
 
 mod row;
+mod shape;
 mod table;
 
 pub use row::Row;
+use shape::Shape;
 pub use table::binomial;
-use table::entry;
 
 // How many rows there are of r registers with contents from 0 to top.
 pub fn row_count(r: usize, top: u8) -> Option<usize>
     ensures { result ≡ (if in_range r top then Some (choose (top + r) r) else None) }
 {
-    if r == 0 || r > 5 || top > 10 {
-        return None;
-    }
-    binomial(top as usize + r, r)
+    Some(Shape::new(r, top)?.count())
 }
 
-// The largest content up to `limit` such that no more than k rows of j registers begin with less.
-fn leading(j: usize, k: usize, limit: u8) -> u8
-    requires some { 1 ≤ j }
-    requires few { j ≤ 5 }
-    requires low { limit ≤ 10 }
-    requires inside { k < choose (limit + j) j }
-    ensures under { result ≤ limit }
-    ensures reached { choose (result + j - 1) j ≤ k }
-    ensures passed { k < choose (result + j) j }
+// Takes the content at the index out: those behind it move up by one place, and a 0 comes in at the end.
+#[tactic(auto, using(crate::proofs::Held::turned))]
+fn take_out(contents: &mut [u8], index: usize)
+    requires { index < length contents.old }
+    ensures { contents.new ≡ remove contents.old index ++ 0 ∷ [] }
 {
-    let mut c = limit;
-    while entry(c as usize + j - 1, j) > k {
-        c -= 1;
-    }
-    c
+    contents[index] = 0;
+    contents[index..].rotate_left(1);
 }
 
 impl Row {
@@ -48,7 +39,7 @@ impl Row {
     pub fn zeros(r: usize) -> Option<Row>
         ensures { found result ≡ (if some_registers r then Some (replicate r 0) else None) }
     {
-        if r == 0 || r > 5 {
+        if !(1..=5).contains(&r) {
             return None;
         }
         Some(Row {
@@ -61,32 +52,8 @@ impl Row {
     pub fn from_number(r: usize, top: u8, k: usize) -> Option<Row>
         ensures { found result ≡ (if is_number r top k then slice_get (rows r top) k else None) }
     {
-        if k < row_count(r, top)? {
-            Some(Row::numbered(r, top, k))
-        } else {
-            None
-        }
-    }
-
-    // The same for a number that a row has: its contents are found from the last register down.
-    fn numbered(r: usize, top: u8, k: usize) -> Row
-        requires range { in_range r top ≡ true }
-        requires inside { k < choose (top + r) r }
-        ensures { slice_get (rows r top) k ≡ Some (contents_of result) }
-    {
-        let mut contents = [0; 5];
-        let mut limit = top;
-        let mut rest = k;
-        for i in 0..r {
-            let j = r - i;
-            limit = leading(j, rest, limit);
-            rest -= entry(limit as usize + j - 1, j);
-            contents[i] = limit;
-        }
-        Row {
-            registers: r,
-            contents,
-        }
+        let shape = Shape::new(r, top)?;
+        (k < shape.count()).then(|| shape.row(k))
     }
 
     // The number of the row, whatever the top.
@@ -94,69 +61,58 @@ impl Row {
         ensures row { IsRow 10 (contents_of self) }
         ensures value { (top : ℕ) → IsRow top (contents_of self) → result ≡ place (contents_of self) (rows (length (contents_of self)) top) }
     {
-        let mut sum = 0;
-        for j in 0..self.registers {
-            sum += self.share(j + 1);
-        }
-        sum
+        (0..self.registers).map(|i| self.share(i)).sum()
     }
 
-    // What register j adds to the number.
-    fn share(self, j: usize) -> usize
-        requires some { 1 ≤ j }
-        requires there { j ≤ self.registers }
-        requires low { slice_index self.contents (self.registers - j) ≤ 10 }
-        ensures value { result ≡ choose (slice_index self.contents (self.registers - j) + j - 1) j }
+    // What the content at index i adds: how many rows of the registers from there on begin with less.
+    fn share(self, i: usize) -> usize
+        requires { i < self.registers }
+        ensures value { result ≡ choose (slice_index self.contents i + (self.registers - i) - 1) (self.registers - i) }
         ensures small { result < 2 ^ 16 }
     {
-        entry(self.contents[self.registers - j] as usize + j - 1, j)
+        let rest = Shape {
+            registers: self.registers - i,
+            top: 10,
+        };
+        rest.before(self.contents[i])
+    }
+
+    // The index of what register j holds, if there is one.
+    fn index(self, j: usize) -> Option<usize>
+        ensures { result ≡ (if has_register j (contents_of self) then Some (self.registers - j) else None) }
+    {
+        (1..=self.registers)
+            .contains(&j)
+            .then(|| self.registers - j)
     }
 
     // What register j holds.
     pub fn content(self, j: usize) -> Option<u8>
         ensures { result ≡ (if has_register j (contents_of self) then Some (content j (contents_of self)) else None) }
     {
-        if j >= 1 && j <= self.registers {
-            Some(self.contents[self.registers - j])
-        } else {
-            None
-        }
+        Some(self.contents[self.index(j)?])
     }
 
     // The row after a move of priority p, before any reset.
-    pub fn updated(self, p: u8) -> Option<Row>
+    pub fn updated(mut self, p: u8) -> Option<Row>
         ensures { found result ≡ (if nat_le p 10 then Some (updated p (contents_of self)) else None) }
     {
         if p > 10 {
             return None;
         }
-        let mut contents = self.contents;
-        for i in 0..self.registers {
-            contents[i] = contents[i].max(p);
-        }
-        Some(Row {
-            registers: self.registers,
-            contents,
-        })
+        self.contents = self.contents.map(|c| c.max(p));
+        Some(self)
     }
 
     // The row after a reset of register j.
-    pub fn reset(self, j: usize) -> Option<Row>
+    pub fn reset(mut self, j: usize) -> Option<Row>
         ensures { found result ≡ (if has_register j (contents_of self) then Some (reset j (contents_of self)) else None) }
     {
-        if j == 0 || self.registers < j {
-            return None;
-        }
-        let last = self.registers - 1;
+        let index = self.index(j)?;
         let mut contents = self.contents;
-        for i in self.registers - j..last {
-            contents[i] = contents[i + 1];
-        }
-        contents[last] = 0;
-        Some(Row {
-            registers: self.registers,
-            contents,
-        })
+        take_out(&mut contents[..self.registers], index);
+        self.contents = contents;
+        Some(self)
     }
 
     // The priority of a reset of register j.

@@ -2,6 +2,7 @@
 ghost use Rattle.std.specs.Prelude.{◌≡◌, ◌≤◌, length, take};
 ghost use Rattle.rows.specs.Rows.{IsRow};
 
+// An array with a count beside it: rows are copied, which a vector is not.
 #[derive(Clone, Copy)]
 pub struct Row {
     pub(crate) registers: usize,

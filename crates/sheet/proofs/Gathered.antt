@@ -1,35 +1,24 @@
 -- The positions that have been read, one more at a time.
-use Rattle.std.proofs.Common.{◌≡◌, ℕ, zero, suc, ◌+◌, ◌<◌, ◌≤◌, Bool, true, false, List, [], ◌∷◌, ◌++◌, length, get_or, replicate, sym, refl, ap, ◌∙◌, inl, inr, append_assoc, append-nil, add-zero, arith, length-append}
+use Rattle.std.proofs.Common.{◌≡◌, ℕ, suc, ◌+◌, ◌<◌, ◌≤◌, Bool, true, false, List, [], ◌∷◌, ◌++◌, length, get_or, replicate, sym, refl, ap, ◌∙◌, inl, inr, append-nil, add-zero, arith, length-append}
+use Rattle.std.specs.List.{concat}
+use Rattle.std.proofs.Math.Seq.{get_or-append_seam}
+use Rattle.std.proofs.lemmas.List.{get_or_append_left, get_or-replicate}
+use Rattle.std.proofs.lemmas.List.Folds.{concat-append}
 use Rattle.std.proofs.lemmas.Bool.{cases_lt}
 use Rattle.game.specs.Lowest.{LowestWithout}
-use Rattle.game.specs.declared.Player.{Player}
-use Rattle.game.specs.declared.Arc.{Arc}
-use Rattle.arena.specs.declared.named.Name.{Name}
 use Rattle.table.specs.Sites.{Site}
 use Rattle.sheet.specs.declared.fault.SheetFault.TheVariants.{Short, Version, Large, Length, Position, Record, Repeated, Unused}
 use Rattle.sheet.specs.declared.fault.ReadFault.{ReadFault}
 use Rattle.sheet.specs.declared.fault.ReadFault.TheVariants.{Refused, Memory}
-use Rattle.sheet.specs.Layout.{positions, records, first_record, mover_byte, name_bytes, Recorded}
-use Rattle.sheet.specs.Chains.{Leads, Chains, flat, occurrences, mover_of, mended, site_at, described, Describes}
+use Rattle.sheet.specs.Layout.{positions, records, first_record, Recorded}
+use Rattle.sheet.specs.Chains.{Leads, Chains, occurrences, site_at, described, Describes}
 use Rattle.sheet.specs.Chains.Leads.{here, along}
 use Rattle.sheet.specs.Refusals.{ComesAgain, NeverComes}
-use Rattle.sheet.specs.Reading.{bit, MarksAdded, ChainRead, MarkedTwice, ChainStopped, PositionRead, AllRead, AllStopped, AllMarked}
-use Rattle.sheet.proofs.Marks.{occurrences_append}
+use Rattle.sheet.specs.Reading.{bit, MarksAdded, MarkedTwice, PositionRead, AllRead, Stopped}
+use Rattle.sheet.proofs.Steps.{occurrences_append}
 
-pub position_is : {s : List ℕ} {v : ℕ} {old new : List Bool} {arcs : List Arc} → ChainRead s v old new arcs → (mover : Player) (name : Name) (all : List Arc) → mover ≡ mover_of (mover_byte s v) → name.bytes ≡ name_bytes s v → all ≡ mended v mover arcs → PositionRead s v old new (record { mover = mover; name = name; arcs = all })
-position_is {s} {v} {arcs = arcs} read mover name all mover_is name_is all_is =
-    let same : all ≡ mended v (mover_of (mover_byte s v)) arcs = rw (← mover_is) all_is in
-    let arcs_are = same ∙ ap (mended v (mover_of (mover_byte s v))) read.arcs_are in
-    record {
-      chain = read.chain;
-      ended = read.ended;
-      marked = read.marked;
-      site_is = λ i. record { mover = mover_is i; name = record { bytes = name_is i }; arcs = arcs_are i };
-    }
-
-pub flat_push : (chains : List (List ℕ)) (ks : List ℕ) → flat (chains ++ ks ∷ []) ≡ flat chains ++ ks
-flat_push [] ks = append-nil ks
-flat_push (c ∷ chains) ks = ap (λ xs. c ++ xs) (flat_push chains ks) ∙ sym (append_assoc c (flat chains) ks)
+pub concat_push : (chains : List (List ℕ)) (ks : List ℕ) → concat (chains ++ ks ∷ []) ≡ concat chains ++ ks
+concat_push chains ks = concat-append chains (ks ∷ []) ∙ ap (λ xs. concat chains ++ xs) (append-nil ks)
 
 described_push : (s : List ℕ) (v : ℕ) (chains : List (List ℕ)) (ks : List ℕ) → described s v (chains ++ ks ∷ []) ≡ described s v chains ++ site_at s (v + length chains) ks ∷ []
 described_push s v [] ks = rw add-zero
@@ -37,39 +26,21 @@ described_push s v (c ∷ chains) ks =
     let here_is : suc v + length chains ≡ v + suc (length chains) = omega arith in
     ap (λ xs. site_at s v c ∷ xs) (described_push s (suc v) chains ks ∙ ap (λ n. described s (suc v) chains ++ site_at s n ks ∷ []) here_is)
 
-get_d_before : {A : Type 0} (xs : List A) (y d : A) (i : ℕ) → i < length xs → get_or (xs ++ y ∷ []) i d ≡ get_or xs i d
-get_d_before [] y d i h = absurd (omega arith)
-get_d_before (x ∷ xs) y d zero h = refl
-get_d_before (x ∷ xs) y d (suc i) h = get_d_before xs y d i (omega arith)
-
-get_d_last : {A : Type 0} (xs : List A) (y d : A) → get_or (xs ++ y ∷ []) (length xs) d ≡ y
-get_d_last [] y d = refl
-get_d_last (x ∷ xs) y d = get_d_last xs y d
-
 pub chains_push : {s : List ℕ} {v : ℕ} {chains : List (List ℕ)} {ks : List ℕ} → Chains s v chains → Leads s (first_record s v) ks 0 → Chains s (v + 1) (chains ++ ks ∷ [])
 chains_push {s} {v} {chains} {ks} whole ended = record {
   count = let h = whole.count in length-append chains (ks ∷ []) ∙ omega arith;
   ended = λ u h. elim (cases_lt u v) [
     | inl below ↦ let inside : u < length chains = rw whole.count below in
-        rw (get_d_before chains ks [] u inside) (whole.ended u below)
+        rw (get_or_append_left chains (ks ∷ []) [] u inside) (whole.ended u below)
     | inr above ↦ let same : u ≡ length chains = let n = whole.count in omega arith in
         let at : length chains ≡ v = whole.count in
-        rw (same, get_d_last chains ks [], at) ended
+        rw (same, get_or-append_seam chains ks [] [], at) ended
   ];
 }
 
 marks_join : {old mid new : List Bool} {xs ys : List ℕ} → MarksAdded old mid xs → MarksAdded mid new ys → MarksAdded old new (xs ++ ys)
 marks_join {xs = xs} {ys = ys} first second = record {
-  as_many = second.as_many;
   each = λ k h. let a = first.each k h in let b = second.each k h in let c = occurrences_append k xs ys in omega arith;
-}
-
-pub none_read : (s : List ℕ) → AllRead s 0 (replicate 49 false) []
-none_read s = record {
-  chains = [];
-  whole = record { count = refl; ended = λ u h. absurd (omega arith) };
-  marked = record { as_many = refl; each = λ k h. sym (add-zero (bit (get_or (replicate 49 false) k false))) };
-  sites_are = refl;
 }
 
 pub one_more_read : {s : List ℕ} {v : ℕ} {mid new : List Bool} {sites : List Site} {site : Site} → AllRead s v mid sites → PositionRead s v mid new site → AllRead s (v + 1) new (sites ++ site ∷ [])
@@ -79,7 +50,7 @@ one_more_read {s} {v} {new = new} {sites = sites} {site = site} all one =
     record {
       chains = all.chains ++ one.chain ∷ [];
       whole = chains_push all.whole one.ended;
-      marked = rw (flat_push all.chains one.chain) (marks_join all.marked one.marked);
+      marked = rw (concat_push all.chains one.chain) (marks_join all.marked one.marked);
       sites_are = ap (λ xs. xs ++ site ∷ []) all.sites_are ∙ ap (λ x. described s 0 all.chains ++ x ∷ []) last ∙ sym (described_push s 0 all.chains one.chain);
     }
 
@@ -88,18 +59,13 @@ pub leads_within : {s : List ℕ} {e to : ℕ} {ks : List ℕ} → Recorded s �
 leads_within recorded here h = h
 leads_within recorded (along some more) h = leads_within recorded more (recorded.each_record _ some h).next
 
-no_mark : (n k : ℕ) → get_or (replicate n false) k false ≡ false
-no_mark zero k = refl
-no_mark (suc n) zero = refl
-no_mark (suc n) (suc k) = no_mark n k
-
 bit_low : (b : Bool) → bit b ≤ 1
 bit_low true = omega arith
 bit_low false = omega arith
 
 -- the marks of all records reached say how often each was
 pub reached_by_marks : {new : List Bool} {ks : List ℕ} → MarksAdded (replicate 49 false) new ks → (k : ℕ) → k < 49 → occurrences k ks ≡ bit (get_or new k false)
-reached_by_marks {new} {ks} marks k h = let e = marks.each k h in let z = ap bit (no_mark 49 k) in omega arith
+reached_by_marks {new} {ks} marks k h = let e = marks.each k h in let z = ap bit (get_or-replicate 49 k false false h) in omega arith
 
 comes_again : {s : List ℕ} {v k : ℕ} {mid new : List Bool} {sites : List Site} → Recorded s → v < positions s → AllRead s v mid sites → MarkedTwice s v mid new k → ComesAgain s k
 comes_again {s} {v} {k} {new = new} recorded there all twice =
@@ -118,7 +84,7 @@ comes_again {s} {v} {k} {new = new} recorded there all twice =
       again = reached_by_marks joint k (omega arith) ∙ ap bit twice.again;
     }
 
-pub all_stop : {s : List ℕ} {v : ℕ} {mid : List Bool} (new : List Bool) {sites : List Site} → Recorded s → v < positions s → AllRead s v mid sites → (f : ReadFault) → ChainStopped s v mid new f → AllStopped s f
+pub all_stop : {s : List ℕ} {v : ℕ} {mid : List Bool} (new : List Bool) {sites : List Site} → Recorded s → v < positions s → AllRead s v mid sites → (f : ReadFault) → Stopped (MarkedTwice s v mid new) f → Stopped (ComesAgain s) f
 all_stop new recorded there all Memory h = tt
 all_stop new recorded there all (Refused Short) h = h
 all_stop new recorded there all (Refused Version) h = h
@@ -129,7 +95,7 @@ all_stop new recorded there all (Refused (Record k)) h = h
 all_stop new recorded there all (Refused (Repeated k)) h = comes_again recorded there all h
 all_stop new recorded there all (Refused (Unused k)) h = h
 
-pub describes_from : {s : List ℕ} {used : List Bool} {sites : List Site} → Recorded s → AllRead s (positions s) used sites → AllMarked s used → Describes s sites
+pub describes_from : {s : List ℕ} {used : List Bool} {sites : List Site} → Recorded s → AllRead s (positions s) used sites → ((k : ℕ) → 1 ≤ k → k < records s + 1 → get_or used k false ≡ true) → Describes s sites
 describes_from {s} {used} recorded all marked =
     let few = recorded.placed.headed.sized.few_records in (
       all.chains,

@@ -1,5 +1,6 @@
 -- The chains of a sheet, what it means that a sheet fits the layout, and the arena that a fitting sheet describes.
-use Rattle.std.specs.Prelude.{◌≡◌, ℕ, suc, ◌+◌, ◌<◌, ◌≤◌, cond, List, [], ◌∷◌, ◌++◌, map, length, ◌==◌, slice_index_or}
+use Rattle.std.specs.Prelude.{◌≡◌, ℕ, suc, ◌<◌, ◌≤◌, cond, List, [], ◌∷◌, map, length, ◌==◌, count_by, slice_index_or}
+use Rattle.std.specs.List.{concat}
 use Rattle.game.specs.declared.Player.{Player}
 use Rattle.game.specs.declared.Player.TheVariants.{Even, Odd}
 use Rattle.game.specs.declared.Arc.{Arc}
@@ -16,21 +17,16 @@ pub record Chains (s : List ℕ) (v : ℕ) (chains : List (List ℕ)) : Type 0 w
   pub count : length chains ≡ v
   pub ended : (u : ℕ) → u < v → Leads s (first_record s u) (slice_index_or chains u []) 0
 
--- All chains one behind the other, and how often a record stands in a list.
-abbrev pub flat : List (List ℕ) → List ℕ
-flat [] = []
-flat (ks ∷ chains) = ks ++ flat chains
-
+-- How often a record stands in a list.
 abbrev pub occurrences : ℕ → List ℕ → ℕ
-occurrences k [] = 0
-occurrences k (j ∷ ks) = cond (k == j) 1 0 + occurrences k ks
+occurrences k ks = count_by (λ j. k == j) ks
 
 -- A sheet fits the layout: its parts are as they should be, and going through the chains of all positions one comes to every
 -- record exactly once.
 pub record Fits (s : List ℕ) (chains : List (List ℕ)) : Type 0 where
   pub recorded : Recorded s
   pub chained : Chains s (positions s) chains
-  pub each_once : (k : ℕ) → 1 ≤ k → k ≤ records s → occurrences k (flat chains) ≡ 1
+  pub each_once : (k : ℕ) → 1 ≤ k → k ≤ records s → occurrences k (concat chains) ≡ 1
 
 -- What the bytes stand for.
 abbrev pub mover_of : ℕ → Player

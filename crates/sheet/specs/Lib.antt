@@ -3,4 +3,3 @@ pub mod Chains
 pub mod Refusals
 pub mod Reading
 pub mod Read
-pub mod Line

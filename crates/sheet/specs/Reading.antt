@@ -1,15 +1,14 @@
 -- What the steps of reading keep.
-use Rattle.std.specs.Prelude.{◌≡◌, ℕ, ◌+◌, ◌<◌, ◌≤◌, Bool, true, false, List, map, length, get_or, replicate, slice_index_or}
-use Rattle.game.specs.Lowest.{LowestWithout}
+use Rattle.std.specs.Prelude.{◌≡◌, ℕ, ◌+◌, ◌<◌, ◌≤◌, Bool, true, false, List, map, replicate, slice_index_or}
+use Rattle.std.specs.List.{concat}
 use Rattle.game.specs.declared.Arc.{Arc}
 use Rattle.table.specs.Sites.{Site}
-use Rattle.sheet.specs.declared.fault.SheetFault.{SheetFault}
 use Rattle.sheet.specs.declared.fault.SheetFault.TheVariants.{Short, Version, Large, Length, Position, Record, Repeated, Unused}
 use Rattle.sheet.specs.declared.fault.ReadFault.{ReadFault}
 use Rattle.sheet.specs.declared.fault.ReadFault.TheVariants.{Refused, Memory}
-use Rattle.sheet.specs.Layout.{records, first_record}
-use Rattle.sheet.specs.Chains.{Leads, Chains, flat, occurrences, arc_of, site_at, described}
-use Rattle.sheet.specs.Refusals.{ComesAgain, Refuses}
+use Rattle.sheet.specs.Layout.{first_record}
+use Rattle.sheet.specs.Chains.{Leads, Chains, occurrences, arc_of, site_at, described}
+use Rattle.sheet.specs.Refusals.{Refuses}
 
 abbrev pub bit : Bool → ℕ
 bit true = 1
@@ -17,7 +16,6 @@ bit false = 0
 
 -- Of 49 marks, one for each record number, those of the records ks have been added, none of which had one before.
 pub record MarksAdded (old new : List Bool) (ks : List ℕ) : Type 0 where
-  pub as_many : length new ≡ 49
   pub each : (k : ℕ) → k < 49 → bit (slice_index_or new k false) ≡ bit (slice_index_or old k false) + occurrences k ks
 
 -- The chain of position v was read to its end.
@@ -33,18 +31,19 @@ pub record MarkedTwice (s : List ℕ) (v : ℕ) (old new : List Bool) (k : ℕ) 
   pub leads : Leads s (first_record s v) begun k
   pub record_there : 1 ≤ k
   pub marked : MarksAdded old new begun
-  pub again : get_or new k false ≡ true
+  pub again : slice_index_or new k false ≡ true
 
-abbrev pub ChainStopped : List ℕ → ℕ → List Bool → List Bool → ReadFault → Type 0
-ChainStopped s v old new Memory = Unit {0}
-ChainStopped s v old new (Refused Short) = ⊥
-ChainStopped s v old new (Refused Version) = ⊥
-ChainStopped s v old new (Refused Large) = ⊥
-ChainStopped s v old new (Refused Length) = ⊥
-ChainStopped s v old new (Refused (Position u)) = ⊥
-ChainStopped s v old new (Refused (Record k)) = ⊥
-ChainStopped s v old new (Refused (Repeated k)) = MarkedTwice s v old new k
-ChainStopped s v old new (Refused (Unused k)) = ⊥
+-- Reading stopped at a record that comes a second time, or for want of memory.
+abbrev pub Stopped : (ℕ → Type 0) → ReadFault → Type 0
+Stopped Again Memory = Unit {0}
+Stopped Again (Refused Short) = ⊥
+Stopped Again (Refused Version) = ⊥
+Stopped Again (Refused Large) = ⊥
+Stopped Again (Refused Length) = ⊥
+Stopped Again (Refused (Position v)) = ⊥
+Stopped Again (Refused (Record k)) = ⊥
+Stopped Again (Refused (Repeated k)) = Again k
+Stopped Again (Refused (Unused k)) = ⊥
 
 -- Position v was read, by its chain.
 pub record PositionRead (s : List ℕ) (v : ℕ) (old new : List Bool) (site : Site) : Type 0 where
@@ -57,25 +56,8 @@ pub record PositionRead (s : List ℕ) (v : ℕ) (old new : List Bool) (site : S
 pub record AllRead (s : List ℕ) (v : ℕ) (new : List Bool) (sites : List Site) : Type 0 where
   pub chains : List (List ℕ)
   pub whole : Chains s v chains
-  pub marked : MarksAdded (replicate 49 false) new (flat chains)
+  pub marked : MarksAdded (replicate 49 false) new (concat chains)
   pub sites_are : sites ≡ described s 0 chains
-
-abbrev pub AllStopped : List ℕ → ReadFault → Type 0
-AllStopped s Memory = Unit {0}
-AllStopped s (Refused Short) = ⊥
-AllStopped s (Refused Version) = ⊥
-AllStopped s (Refused Large) = ⊥
-AllStopped s (Refused Length) = ⊥
-AllStopped s (Refused (Position u)) = ⊥
-AllStopped s (Refused (Record k)) = ⊥
-AllStopped s (Refused (Repeated k)) = ComesAgain s k
-AllStopped s (Refused (Unused k)) = ⊥
-
-abbrev pub AllMarked : List ℕ → List Bool → Type 0
-AllMarked s used = (k : ℕ) → 1 ≤ k → k < records s + 1 → slice_index_or used k false ≡ true
-
-abbrev pub LowestUnmarked : List ℕ → List Bool → SheetFault → Type 0
-LowestUnmarked s used f = (k : ℕ) × (f ≡ Unused k) × LowestWithout (λ j. slice_index_or used j false ≡ true) 1 (records s + 1) k
 
 -- Why no positions were read.
 abbrev pub Unread : List ℕ → ReadFault → Type 0

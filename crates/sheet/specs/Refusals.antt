@@ -1,11 +1,12 @@
 -- Why a sheet is refused: the number and place of each fault, and when it is given. The faults are tested in this order, positions
 -- and records ascending, so each is given only where none before it applies.
 use Rattle.std.specs.Prelude.{◌≡◌, ℕ, ◌+◌, ◌*◌, ◌<◌, ◌≤◌, ◌⊎◌, List, ◌++◌, length, ◌≢◌}
+use Rattle.std.specs.List.{concat}
 use Rattle.game.specs.Lowest.{LowestWithout}
 use Rattle.sheet.specs.declared.fault.SheetFault.{SheetFault}
 use Rattle.sheet.specs.declared.fault.SheetFault.TheVariants.{Short, Version, Large, Length, Position, Record, Repeated, Unused}
 use Rattle.sheet.specs.Layout.{byte, positions, records, first_record, Opened, Sized, Headed, Placed, Recorded, PositionFits, RecordFits}
-use Rattle.sheet.specs.Chains.{Leads, Chains, flat, occurrences}
+use Rattle.sheet.specs.Chains.{Leads, Chains, occurrences}
 
 abbrev pub number_of : SheetFault → ℕ
 number_of Short = 1
@@ -37,15 +38,15 @@ pub record ComesAgain (s : List ℕ) (k : ℕ) : Type 0 where
   pub whole : Chains s position before
   pub leads : Leads s (first_record s position) begun k
   pub record_there : 1 ≤ k
-  pub once : (j : ℕ) → 1 ≤ j → j ≤ records s → occurrences j (flat before ++ begun) ≤ 1
-  pub again : occurrences k (flat before ++ begun) ≡ 1
+  pub once : (j : ℕ) → 1 ≤ j → j ≤ records s → occurrences j (concat before ++ begun) ≤ 1
+  pub again : occurrences k (concat before ++ begun) ≡ 1
 
 -- Going through all chains one comes to no record twice, and to record k not at all, the lowest such record.
 pub record NeverComes (s : List ℕ) (k : ℕ) : Type 0 where
   pub chains : List (List ℕ)
   pub whole : Chains s (positions s) chains
-  pub once : (j : ℕ) → 1 ≤ j → j ≤ records s → occurrences j (flat chains) ≤ 1
-  pub lowest : LowestWithout (λ j. occurrences j (flat chains) ≡ 1) 1 (records s + 1) k
+  pub once : (j : ℕ) → 1 ≤ j → j ≤ records s → occurrences j (concat chains) ≤ 1
+  pub lowest : LowestWithout (λ j. occurrences j (concat chains) ≡ 1) 1 (records s + 1) k
 
 -- When each fault is given.
 abbrev pub Refuses : List ℕ → SheetFault → Type 0

@@ -1,55 +1,61 @@
 // The chains of arc records: each position's arcs in order, and no record reached twice.
-ghost use Rattle.std.specs.Prelude.{◌≡◌, ◌<◌, false, length, replicate, MatchResult};
+ghost use Rattle.std.specs.Prelude.{◌≡◌, ◌<◌, false, replicate, MatchResult};
 ghost use Rattle.sheet.specs.declared.fault.ReadFault.TheVariants.{Memory};
 ghost use Rattle.table.specs.Sites.{site_of, sites_of};
-ghost use Rattle.sheet.specs.Layout.{positions, mover_byte, Headed, Recorded};
-ghost use Rattle.sheet.specs.Chains.{mover_of, losing, mended};
-ghost use Rattle.sheet.specs.Reading.{ChainRead, ChainStopped, PositionRead, AllRead, AllStopped, AllMarked, LowestUnmarked};
+ghost use Rattle.sheet.specs.Layout.{positions};
+ghost use Rattle.sheet.specs.Chains.{losing, mended};
+ghost use Rattle.sheet.specs.Reading.{ChainRead, MarkedTwice, PositionRead, AllRead, Stopped};
+ghost use Rattle.sheet.specs.Refusals.{ComesAgain};
 
 use super::fault::{ReadFault, SheetFault};
-use super::layout::{arc_at, name_at, next_record};
+use super::layout::RecordedSheet;
+use super::marks::Marks;
 use game::{Arc, Player};
 use std::alloc::Global;
 use table::Position;
 
-// The arcs of the chain of position v. `used` marks the records that the chains so far have reached.
-fn chain(heap: Global, sheet: &[u8], v: usize, used: &mut [bool]) -> Result<Vec<Arc>, ReadFault>
-    requires recorded { Recorded sheet.now }
-    requires there { v < positions sheet.now }
-    requires marks { length used.old ≡ 49 }
-    ensures { MatchResult result (λ arcs. ChainRead sheet.now v used.old used.new arcs.items) (ChainStopped sheet.now v used.old used.new) }
+// The arcs of the chain of position v. The marks are of the records that the chains so far have reached.
+fn chain(
+    heap: Global,
+    sheet: &RecordedSheet,
+    v: usize,
+    marks: &mut Marks,
+) -> Result<Vec<Arc>, ReadFault>
+    requires { v < positions sheet.now.sheet.bytes.now }
+    ensures { MatchResult result (λ arcs. ChainRead sheet.now.sheet.bytes.now v marks.old.marked marks.new.marked arcs.items) (Stopped (MarkedTwice sheet.now.sheet.bytes.now v marks.old.marked marks.new.marked)) }
 {
     let mut arcs = Vec::new(heap);
-    let mut reached = sheet[4 + 6 * v + 1] as usize;
+    let mut reached = sheet.first_record(v);
     while reached != 0 {
-        if used[reached] {
+        if !marks.mark(reached) {
             return Err(ReadFault::Refused(SheetFault::Repeated(reached)));
         }
-        used[reached] = true;
-        arcs.push(arc_at(sheet, reached))?;
-        reached = next_record(sheet, reached);
+        arcs.push(sheet.arc(reached))?;
+        reached = sheet.next_record(reached);
     }
     Ok(arcs)
 }
 
 // Position v with its arcs.
-fn position(heap: Global, sheet: &[u8], v: usize, used: &mut [bool]) -> Result<Position, ReadFault>
-    requires recorded { Recorded sheet.now }
-    requires there { v < positions sheet.now }
-    requires marks { length used.old ≡ 49 }
-    ensures { MatchResult result (λ p. PositionRead sheet.now v used.old used.new (site_of p)) (ChainStopped sheet.now v used.old used.new) }
+fn position(
+    heap: Global,
+    sheet: &RecordedSheet,
+    v: usize,
+    marks: &mut Marks,
+) -> Result<Position, ReadFault>
+    requires { v < positions sheet.now.sheet.bytes.now }
+    ensures { MatchResult result (λ p. PositionRead sheet.now.sheet.bytes.now v marks.old.marked marks.new.marked (site_of p)) (Stopped (MarkedTwice sheet.now.sheet.bytes.now v marks.old.marked marks.new.marked)) }
 {
-    let mover = mover_at(sheet, v);
-    let name = name_at(sheet, v);
-    let arcs = mended(v, mover, chain(heap, sheet, v, used)?)?;
+    let mover = sheet.mover(v);
+    let name = sheet.name(v);
+    let arcs = mended(v, mover, chain(heap, sheet, v, marks)?)?;
     Ok(Position { mover, name, arcs })
 }
 
 // The arcs, or where there are none an arc to the position itself by which its mover loses.
-fn mended(v: usize, mover: Player, arcs: Vec<Arc>) -> Result<Vec<Arc>, ReadFault>
+fn mended(v: usize, mover: Player, mut arcs: Vec<Arc>) -> Result<Vec<Arc>, ReadFault>
     ensures { MatchResult result (λ all. all.items ≡ mended v mover arcs.items) (λ f. f ≡ Memory) }
 {
-    let mut arcs = arcs;
     if arcs.is_empty() {
         arcs.push(Arc {
             target: v,
@@ -57,18 +63,6 @@ fn mended(v: usize, mover: Player, arcs: Vec<Arc>) -> Result<Vec<Arc>, ReadFault
         })?;
     }
     Ok(arcs)
-}
-
-fn mover_at(sheet: &[u8], v: usize) -> Player
-    requires headed { Headed sheet.now }
-    requires there { v < positions sheet.now }
-    ensures { result ≡ mover_of (mover_byte sheet.now v) }
-{
-    if sheet[4 + 6 * v] == 0 {
-        Player::Even
-    } else {
-        Player::Odd
-    }
 }
 
 // The priority of an arc by which the player loses.
@@ -81,35 +75,19 @@ fn losing(mover: Player) -> u8
     }
 }
 
-// All positions in order; `used` then marks the records in their chains.
+// All positions in order; the marks are then of the records in their chains.
 pub fn all_positions(
     heap: Global,
-    sheet: &[u8],
-    used: &mut [bool],
+    sheet: &RecordedSheet,
+    marks: &mut Marks,
 ) -> Result<Vec<Position>, ReadFault>
-    requires recorded { Recorded sheet.now }
-    requires marks { used.old ≡ replicate 49 false }
-    ensures { MatchResult result (λ ps. AllRead sheet.now (positions sheet.now) used.new (sites_of ps.items)) (AllStopped sheet.now) }
+    requires { marks.old.marked ≡ replicate 49 false }
+    ensures { MatchResult result (λ ps. AllRead sheet.now.sheet.bytes.now (positions sheet.now.sheet.bytes.now) marks.new.marked (sites_of ps.items)) (Stopped (ComesAgain sheet.now.sheet.bytes.now)) }
 {
-    let count = sheet[1] as usize;
     let mut all = Vec::new(heap);
-    for v in 0..count {
-        all.push(position(heap, sheet, v, used)?)?;
+    // a loop and no chain of iterators, since each position adds to the marks
+    for v in 0..sheet.positions() {
+        all.push(position(heap, sheet, v, marks)?)?;
     }
     Ok(all)
-}
-
-// Refuses the sheet if a record has no mark.
-pub fn check_used(sheet: &[u8], used: &[bool]) -> Result<(), SheetFault>
-    requires recorded { Recorded sheet.now }
-    requires marks { length used.now ≡ 49 }
-    ensures { MatchResult result (λ _. AllMarked sheet.now used.now) (LowestUnmarked sheet.now used.now) }
-{
-    let count = sheet[2] as usize;
-    for k in 1..count + 1 {
-        if !used[k] {
-            return Err(SheetFault::Unused(k));
-        }
-    }
-    Ok(())
 }

@@ -4,6 +4,8 @@ ghost use Rattle.sheet.specs.Refusals.{number_of, place_of};
 ghost use Rattle.sheet.specs.declared.fault.ReadFault.TheVariants.{Refused as Refused-sheet, Memory};
 
 use std::alloc::{AllocError, AllocFailed};
+use text::Fault;
+use thiserror::Error;
 
 // Why a sheet is refused. Each fault has a number, and a place: 0, a position or an arc record.
 #[derive(Clone, Copy, PartialEq, Eq, Debug)]
@@ -26,11 +28,13 @@ pub enum SheetFault {
     Unused(usize),
 }
 
-impl SheetFault {
-    pub fn number(self) -> usize
-        ensures { result ≡ number_of self }
-    {
-        match self {
+impl Fault for SheetFault {
+    ghost number_of = { number_of };
+
+    ghost place_of = { place_of };
+
+    fn number(&self) -> usize {
+        match *self {
             SheetFault::Short => 1,
             SheetFault::Version => 2,
             SheetFault::Large => 3,
@@ -42,10 +46,8 @@ impl SheetFault {
         }
     }
 
-    pub fn place(self) -> usize
-        ensures { result ≡ place_of self }
-    {
-        match self {
+    fn place(&self) -> usize {
+        match *self {
             SheetFault::Short | SheetFault::Version | SheetFault::Large | SheetFault::Length => 0,
             SheetFault::Position(v) => v,
             SheetFault::Record(k) | SheetFault::Repeated(k) | SheetFault::Unused(k) => k,
@@ -54,9 +56,11 @@ impl SheetFault {
 }
 
 // A sheet is not read because it is refused, or for want of memory.
-#[derive(Clone, Copy, PartialEq, Eq, Debug)]
+#[derive(Clone, Copy, PartialEq, Eq, Debug, Error)]
 pub enum ReadFault {
+    #[error("the sheet is refused")]
     Refused(SheetFault),
+    #[error("no memory for the sheet")]
     Memory,
 }
 

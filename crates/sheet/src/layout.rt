@@ -1,122 +1,208 @@
-// The parts of a sheet, and the tests of its header, positions and records.
-ghost use Rattle.std.specs.Prelude.{◌≡◌, ◌<◌, ◌≤◌, MatchBool, MatchResult};
-ghost use Rattle.sheet.specs.Layout.{positions, records, name_bytes, next_record, Headed, Placed, Recorded, AllVisible, PositionFits, RecordFits};
-ghost use Rattle.sheet.specs.Chains.{arc_of};
+// The parts of a sheet, and the tests of its header, positions and records. Where each byte stands is said here alone.
+ghost use Rattle.std.specs.Prelude.{◌≡◌, ◌<◌, ◌≤◌, ◌↔◌, IsTrue, MatchResult};
+ghost use Rattle.sheet.specs.Layout.{positions, records, mover_byte, first_record, name_bytes, priority_byte, target_byte, next_record, Headed, Placed, Recorded, PositionFits, RecordFits};
+ghost use Rattle.sheet.specs.Chains.{arc_of, mover_of};
 ghost use Rattle.sheet.specs.Refusals.{Refuses};
 
 use super::fault::SheetFault;
 use arena::Name;
-use game::Arc;
+use game::{Arc, Player};
+use std::array;
 
-pub fn check_header(sheet: &[u8]) -> Result<(), SheetFault>
-    ensures { MatchResult result (λ _. Headed sheet.now) (Refuses sheet.now) }
-{
-    if sheet.len() < 4 {
-        return Err(SheetFault::Short);
-    }
-    if sheet[0] != 1 || sheet[3] != 0 {
-        return Err(SheetFault::Version);
-    }
-    let positions = sheet[1] as usize;
-    let records = sheet[2] as usize;
-    if positions > 16 || records > 48 {
-        return Err(SheetFault::Large);
-    }
-    if sheet.len() != 4 + 6 * positions + 3 * records {
-        return Err(SheetFault::Length);
-    }
-    Ok(())
+// The bytes of a position: the mover, the first record of its chain, and the name.
+#[derive(Clone, Copy)]
+struct PositionRecord {
+    mover: u8,
+    first: u8,
+    name: [u8; 4],
 }
 
-pub fn check_positions(sheet: &[u8]) -> Result<(), SheetFault>
-    requires { Headed sheet.now }
-    ensures { MatchResult result (λ _. Placed sheet.now) (Refuses sheet.now) }
-{
-    let count = sheet[1] as usize;
-    for v in 0..count {
-        if !position_fits(sheet, v) {
-            return Err(SheetFault::Position(v));
+// The bytes of an arc record: a priority, a target, and the next record of its chain.
+#[derive(Clone, Copy)]
+struct ArcRecord {
+    priority: u8,
+    target: u8,
+    next: u8,
+}
+
+// A sheet whose header is as it should be.
+#[derive(Clone, Copy)]
+pub struct HeadedSheet<'a> {
+    bytes: &'a [u8],
+    ghost headed: { Headed bytes.now },
+}
+
+impl<'a> HeadedSheet<'a> {
+    pub fn read(bytes: &'a [u8]) -> Result<HeadedSheet<'a>, SheetFault>
+        ensures { MatchResult result (λ sheet. sheet.bytes.now ≡ bytes.now) (Refuses bytes.now) }
+    {
+        let [version, positions, records, reserved, ..] = bytes else {
+            return Err(SheetFault::Short);
+        };
+        if *version != 1 || *reserved != 0 {
+            return Err(SheetFault::Version);
+        }
+        let positions = *positions as usize;
+        let records = *records as usize;
+        if positions > 16 || records > 48 {
+            return Err(SheetFault::Large);
+        }
+        if bytes.len() != 4 + 6 * positions + 3 * records {
+            return Err(SheetFault::Length);
+        }
+        Ok(HeadedSheet { bytes })
+    }
+
+    fn positions(&self) -> usize
+        ensures { result ≡ positions self.now.bytes.now }
+    {
+        self.bytes[1] as usize
+    }
+
+    fn records(&self) -> usize
+        ensures { result ≡ records self.now.bytes.now }
+    {
+        self.bytes[2] as usize
+    }
+
+    // Position v, from 0.
+    fn position_record(&self, v: usize) -> PositionRecord
+        requires { v < positions self.now.bytes.now }
+        ensures mover { result.mover ≡ mover_byte self.now.bytes.now v }
+        ensures first { result.first ≡ first_record self.now.bytes.now v }
+        ensures name { result.name ≡ name_bytes self.now.bytes.now v }
+    {
+        let at = 4 + 6 * v;
+        PositionRecord {
+            mover: self.bytes[at],
+            first: self.bytes[at + 1],
+            name: array::from_fn(|i| self.bytes[at + 2 + i]),
         }
     }
-    Ok(())
-}
 
-pub fn check_records(sheet: &[u8]) -> Result<(), SheetFault>
-    requires { Placed sheet.now }
-    ensures { MatchResult result (λ _. Recorded sheet.now) (Refuses sheet.now) }
-{
-    let count = sheet[2] as usize;
-    for k in 1..count + 1 {
-        if !record_fits(sheet, k) {
-            return Err(SheetFault::Record(k));
+    // Arc record k, from 1.
+    fn arc_record(&self, k: usize) -> ArcRecord
+        requires { (1 ≤ k) × (k ≤ records self.now.bytes.now) }
+        ensures priority { result.priority ≡ priority_byte self.now.bytes.now k }
+        ensures target { result.target ≡ target_byte self.now.bytes.now k }
+        ensures next { result.next ≡ next_record self.now.bytes.now k }
+    {
+        let at = 4 + 6 * self.positions() + 3 * (k - 1);
+        ArcRecord {
+            priority: self.bytes[at],
+            target: self.bytes[at + 1],
+            next: self.bytes[at + 2],
         }
     }
-    Ok(())
-}
 
-fn position_fits(sheet: &[u8], v: usize) -> bool
-    requires headed { Headed sheet.now }
-    requires there { v < positions sheet.now }
-    ensures { MatchBool result (PositionFits sheet.now v) (PositionFits sheet.now v → ⊥) }
-{
-    let at = 4 + 6 * v;
-    if sheet[at] > 1 || sheet[at + 1] > sheet[2] {
-        return false;
+    fn position_fits(&self, v: usize) -> bool
+        requires { v < positions self.now.bytes.now }
+        ensures { IsTrue result ↔ PositionFits self.now.bytes.now v }
+    {
+        let record = self.position_record(v);
+        Player::try_from(record.mover).is_ok()
+            && record.first as usize <= self.records()
+            && record.name.iter().all(|b| b.is_ascii_graphic())
     }
-    let name = name_at(sheet, v);
-    all_visible(&name.bytes)
+
+    fn record_fits(&self, k: usize) -> bool
+        requires { (1 ≤ k) × (k ≤ records self.now.bytes.now) }
+        ensures { IsTrue result ↔ RecordFits self.now.bytes.now k }
+    {
+        let record = self.arc_record(k);
+        record.priority <= 7
+            && (record.target as usize) < self.positions()
+            && record.next as usize <= self.records()
+    }
 }
 
-fn all_visible(bytes: &[u8]) -> bool
-    ensures { MatchBool result (AllVisible bytes.now) (AllVisible bytes.now → ⊥) }
-{
-    for b in bytes {
-        if *b < 0x21 || *b > 0x7e {
-            return false;
+// A sheet whose header and positions are as they should be.
+#[derive(Clone, Copy)]
+pub struct PlacedSheet<'a> {
+    sheet: HeadedSheet<'a>,
+    ghost placed: { Placed sheet.bytes.now },
+}
+
+impl<'a> PlacedSheet<'a> {
+    pub fn read(sheet: HeadedSheet<'a>) -> Result<PlacedSheet<'a>, SheetFault>
+        ensures { MatchResult result (λ placed. placed.sheet.bytes.now ≡ sheet.entry.bytes.now) (Refuses sheet.entry.bytes.now) }
+    {
+        match (0..sheet.positions()).find(|v| !sheet.position_fits(*v)) {
+            Some(v) => Err(SheetFault::Position(v)),
+            None => Ok(PlacedSheet { sheet }),
         }
     }
-    true
 }
 
-fn record_fits(sheet: &[u8], k: usize) -> bool
-    requires headed { Headed sheet.now }
-    requires there { (1 ≤ k) × (k ≤ records sheet.now) }
-    ensures { MatchBool result (RecordFits sheet.now k) (RecordFits sheet.now k → ⊥) }
-{
-    let arc = arc_at(sheet, k);
-    arc.priority <= 7
-        && arc.target < sheet[1] as usize
-        && next_record(sheet, k) <= sheet[2] as usize
+// A sheet whose header, positions and records are as they should be; the chains are another matter.
+#[derive(Clone, Copy)]
+pub struct RecordedSheet<'a> {
+    sheet: HeadedSheet<'a>,
+    ghost recorded: { Recorded sheet.bytes.now },
 }
 
-pub fn name_at(sheet: &[u8], v: usize) -> Name
-    requires headed { Headed sheet.now }
-    requires there { v < positions sheet.now }
-    ensures { result.bytes ≡ name_bytes sheet.now v }
-{
-    let at = 4 + 6 * v;
-    Name {
-        bytes: [sheet[at + 2], sheet[at + 3], sheet[at + 4], sheet[at + 5]],
+impl<'a> RecordedSheet<'a> {
+    pub fn read(placed: PlacedSheet<'a>) -> Result<RecordedSheet<'a>, SheetFault>
+        ensures { MatchResult result (λ recorded. recorded.sheet.bytes.now ≡ placed.entry.sheet.bytes.now) (Refuses placed.entry.sheet.bytes.now) }
+    {
+        let sheet = placed.sheet;
+        match (1..sheet.records() + 1).find(|k| !sheet.record_fits(*k)) {
+            Some(k) => Err(SheetFault::Record(k)),
+            None => Ok(RecordedSheet { sheet }),
+        }
     }
-}
 
-pub fn arc_at(sheet: &[u8], k: usize) -> Arc
-    requires headed { Headed sheet.now }
-    requires there { (1 ≤ k) × (k ≤ records sheet.now) }
-    ensures { result ≡ arc_of sheet.now k }
-{
-    let at = 4 + 6 * sheet[1] as usize + 3 * (k - 1);
-    Arc {
-        target: sheet[at + 1] as usize,
-        priority: sheet[at],
+    pub fn positions(&self) -> usize
+        ensures { result ≡ positions self.now.sheet.bytes.now }
+    {
+        self.sheet.positions()
     }
-}
 
-pub fn next_record(sheet: &[u8], k: usize) -> usize
-    requires headed { Headed sheet.now }
-    requires there { (1 ≤ k) × (k ≤ records sheet.now) }
-    ensures { result ≡ next_record sheet.now k }
-{
-    let at = 4 + 6 * sheet[1] as usize + 3 * (k - 1);
-    sheet[at + 2] as usize
+    pub fn records(&self) -> usize
+        ensures { result ≡ records self.now.sheet.bytes.now }
+    {
+        self.sheet.records()
+    }
+
+    pub fn mover(&self, v: usize) -> Player
+        requires { v < positions self.now.sheet.bytes.now }
+        ensures { result ≡ mover_of (mover_byte self.now.sheet.bytes.now v) }
+    {
+        Player::try_from(self.sheet.position_record(v).mover).unwrap()
+    }
+
+    pub fn name(&self, v: usize) -> Name
+        requires { v < positions self.now.sheet.bytes.now }
+        ensures { result.bytes ≡ name_bytes self.now.sheet.bytes.now v }
+    {
+        let bytes = self.sheet.position_record(v).name;
+        Name { bytes }
+    }
+
+    // The first record of position v's chain.
+    pub fn first_record(&self, v: usize) -> usize
+        requires { v < positions self.now.sheet.bytes.now }
+        ensures { result ≡ first_record self.now.sheet.bytes.now v }
+    {
+        self.sheet.position_record(v).first as usize
+    }
+
+    pub fn arc(&self, k: usize) -> Arc
+        requires { (1 ≤ k) × (k ≤ records self.now.sheet.bytes.now) }
+        ensures { result ≡ arc_of self.now.sheet.bytes.now k }
+    {
+        let record = self.sheet.arc_record(k);
+        Arc {
+            target: record.target as usize,
+            priority: record.priority,
+        }
+    }
+
+    // The record that comes after record k in its chain.
+    pub fn next_record(&self, k: usize) -> usize
+        requires { (1 ≤ k) × (k ≤ records self.now.sheet.bytes.now) }
+        ensures { result ≡ next_record self.now.sheet.bytes.now k }
+    {
+        self.sheet.arc_record(k).next as usize
+    }
 }

@@ -4,9 +4,8 @@
 mod chains;
 mod fault;
 mod layout;
-mod line;
+mod marks;
 mod read;
 
 pub use fault::{ReadFault, SheetFault};
-pub use line::refusal_line;
 pub use read::read_sheet;

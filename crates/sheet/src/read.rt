@@ -6,9 +6,10 @@ ghost use Rattle.sheet.specs.Chains.{Describes};
 ghost use Rattle.sheet.specs.Reading.{Unread};
 ghost use Rattle.sheet.specs.Read.{Reads};
 
-use super::chains::{all_positions, check_used};
-use super::fault::ReadFault;
-use super::layout::{check_header, check_positions, check_records};
+use super::chains::all_positions;
+use super::fault::{ReadFault, SheetFault};
+use super::layout::{HeadedSheet, PlacedSheet, RecordedSheet};
+use super::marks::Marks;
 use std::alloc::Global;
 use table::{Position, Table};
 
@@ -30,11 +31,13 @@ fn table_of(heap: Global, sheet: &[u8]) -> Result<Table, ReadFault>
 fn positions_of(heap: Global, sheet: &[u8]) -> Result<Vec<Position>, ReadFault>
     ensures { MatchResult result (λ ps. Describes sheet.now (sites_of ps.items)) (Unread sheet.now) }
 {
-    check_header(sheet)?;
-    check_positions(sheet)?;
-    check_records(sheet)?;
-    let mut used = [false; 49];
-    let positions = all_positions(heap, sheet, &mut used)?;
-    check_used(sheet, &used)?;
-    Ok(positions)
+    let headed = HeadedSheet::read(sheet)?;
+    let placed = PlacedSheet::read(headed)?;
+    let recorded = RecordedSheet::read(placed)?;
+    let mut marks = Marks::none();
+    let positions = all_positions(heap, &recorded, &mut marks)?;
+    match marks.lowest_unmarked(recorded.records()) {
+        Some(k) => Err(ReadFault::Refused(SheetFault::Unused(k))),
+        None => Ok(positions),
+    }
 }

@@ -1,11 +1,12 @@
 // A table of sheets and what reading each of them gives.
 #![tactic(auto)]
 
-use arena::Arena;
+use arena::{Arena, arc_total};
 use game::Player;
 use sheet::{ReadFault, read_sheet};
 use std::alloc::Global;
 use table::Table;
+use text::Fault;
 
 // What reading gives: the number and place of the refusal, or how many positions and arcs there are.
 #[derive(Clone, Copy, PartialEq, Eq, Debug)]
@@ -21,14 +22,6 @@ fn reading(table: &mut Table, heap: Global, bytes: &[u8]) -> Outcome {
         Err(ReadFault::Refused(fault)) => Outcome::Refused(fault.number(), fault.place()),
         Err(ReadFault::Memory) => Outcome::Memory,
     }
-}
-
-fn arc_total(table: &Table) -> usize {
-    let mut total = 0usize;
-    for v in 0..table.size() {
-        total = total.saturating_add(table.arc_count(v).unwrap_or(0));
-    }
-    total
 }
 
 #[cfg(test)]

@@ -1,17 +1,19 @@
 -- Every sheet fits the layout or has a fault.
 use Rattle.std.proofs.Common.{◌≡◌, ℕ, zero, suc, ◌+◌, ◌-◌, ◌*◌, ◌<◌, ◌≤◌, ◌⊎◌, List, [], ◌∷◌, ◌++◌, length, get_or, sym, refl, ap, subst, inl, inr, append_assoc, append-nil, arith, length-append}
+use Rattle.std.specs.List.{concat}
 use Rattle.std.proofs.lemmas.Bool.{cases_lt, cases_eq}
+use Rattle.toolkit.proofs.Search.{seek_least}
 use Rattle.game.specs.Lowest.{LowestWithout}
 use Rattle.table.specs.Sites.{Site}
 use Rattle.sheet.specs.declared.fault.SheetFault.{SheetFault}
 use Rattle.sheet.specs.declared.fault.SheetFault.TheVariants.{Short, Version, Large, Length, Position, Record, Repeated, Unused}
 use Rattle.sheet.specs.Layout.{byte, positions, records, mover_byte, first_record, name_bytes, priority_byte, target_byte, next_record, Opened, Headed, Placed, Recorded, PositionFits, RecordFits, AllVisible}
-use Rattle.sheet.specs.Chains.{Leads, Chains, flat, occurrences, described, Describes}
+use Rattle.sheet.specs.Chains.{Leads, Chains, occurrences, described, Describes}
 use Rattle.sheet.specs.Chains.Leads.{here}
 use Rattle.sheet.specs.Refusals.{ComesAgain, NeverComes, Refuses}
 use Rattle.sheet_theory.specs.Complete.{FaultsComplete}
-use Rattle.sheet.proofs.Marks.{leads_more, occurrences_append, occurs_itself, occurs_apart}
-use Rattle.sheet.proofs.Gathered.{leads_within, flat_push, chains_push}
+use Rattle.sheet.proofs.Steps.{leads_more, occurrences_append, occurs_itself, occurs_apart}
+use Rattle.sheet.proofs.Gathered.{leads_within, concat_push, chains_push}
 use Rattle.sheet.proofs.Laws.{Within, chain_within, once_short}
 use Rattle.sheet_theory.proofs.Unique.{not_both, one_arena, one_fault}
 
@@ -27,23 +29,14 @@ decide_both (inl p) (inr lacks) = inr (λ both. lacks both.1)
 decide_both (inr lacks) q = inr (λ both. lacks both.0)
 
 -- all of some numbers in a row have P, or one is the lowest without
-lowest_from : {P : ℕ → Type 0} → ((i : ℕ) → Decided (P i)) → (start d : ℕ) → ((i : ℕ) → start ≤ i → i < start + d → P i) ⊎ ((i : ℕ) × LowestWithout P start (start + d) i)
-lowest_from test start zero = inl (λ i low high. absurd (omega arith))
-lowest_from {P} test start (suc d) = elim (lowest_from test start d) [
-  | inl all ↦ elim (test (start + d)) [
-    | inl here_too ↦ inl (λ i low high. elim (cases_lt i (start + d)) [
-      | inl below ↦ all i low below
-      | inr above ↦ let same : start + d ≡ i = omega arith in subst P same here_too
-    ])
-    | inr lacks ↦ inr (start + d, record { from_start = omega arith; before_end = omega arith; lacks = lacks; below_have = all })
-  ]
-  | inr (i, lowest) ↦ let end = lowest.before_end in inr (i, record { from_start = lowest.from_start; before_end = omega arith; lacks = lowest.lacks; below_have = lowest.below_have })
-]
-
 lowest_to : {P : ℕ → Type 0} → ((i : ℕ) → Decided (P i)) → (start end : ℕ) → start ≤ end → ((i : ℕ) → start ≤ i → i < end → P i) ⊎ ((i : ℕ) × LowestWithout P start end i)
-lowest_to {P} test start end h =
-    let all : start + (end - start) ≡ end = omega arith in
-    subst (λ e. ((i : ℕ) → start ≤ i → i < e → P i) ⊎ ((i : ℕ) × LowestWithout P start e i)) all (lowest_from test start (end - start))
+lowest_to {P} test start end h = elim (seek_least {P = λ i. P (start + i) → ⊥} {Q = λ i. P (start + i)} (end - start) (λ i l. elim (test (start + i)) [ inl has ↦ inr has | inr lacks ↦ inl lacks ])) [
+  | inl (i, inside, lacks, below) ↦ inr (start + i, record { from_start = omega arith; before_end = omega arith; lacks = lacks; below_have = λ j low l. at j low (below (j - start) (omega arith)) })
+  | inr all ↦ inl (λ i low high. at i low (all (i - start) (omega arith)))
+]
+  where
+    at : (i : ℕ) → start ≤ i → P (start + (i - start)) → P i
+    at i low has = let same : start + (i - start) ≡ i = omega arith in subst P same has
 
 visible_or_not : (bytes : List ℕ) → Decided (AllVisible bytes)
 visible_or_not bytes = elim (lowest_to (λ i. decide_both (decide_le 0x21 (get_or bytes i 0)) (decide_le (get_or bytes i 0) 0x7E)) 0 (length bytes) (omega arith)) [
@@ -76,28 +69,28 @@ within_append m (x ∷ xs) ys h k = (h.0, within_append m xs ys h.1 k)
 record Chained (s : List ℕ) (v : ℕ) : Type 0 where
   chains : List (List ℕ)
   whole : Chains s v chains
-  once : Once s (flat chains)
-  within : Within (records s) (flat chains)
+  once : Once s (concat chains)
+  within : Within (records s) (concat chains)
 
 module _ (s : List ℕ) (recorded : Recorded s) where
   -- how far the chain of the next position has been gone along
   record Along (v : ℕ) (done : Chained s v) (begun : List ℕ) (reached : ℕ) : Type 0 where
     leads : Leads s (first_record s v) begun reached
-    once : Once s (flat done.chains ++ begun)
+    once : Once s (concat done.chains ++ begun)
 
   module _ (v : ℕ) (there : v < positions s) (done : Chained s v) where
-    along_within : (begun : List ℕ) (reached : ℕ) → Along v done begun reached → Within (records s) (flat done.chains ++ begun)
-    along_within begun reached way = within_append (records s) (flat done.chains) begun done.within (chain_within recorded way.leads (recorded.placed.each_position v there).first)
+    along_within : (begun : List ℕ) (reached : ℕ) → Along v done begun reached → Within (records s) (concat done.chains ++ begun)
+    along_within begun reached way = within_append (records s) (concat done.chains) begun done.within (chain_within recorded way.leads (recorded.placed.each_position v there).first)
 
     along_ends : (begun : List ℕ) → Along v done begun 0 → Chained s (v + 1)
     along_ends begun way = record {
       chains = done.chains ++ begun ∷ [];
       whole = chains_push done.whole way.leads;
-      once = rw (flat_push done.chains begun) way.once;
-      within = rw (flat_push done.chains begun) (along_within begun 0 way);
+      once = rw (concat_push done.chains begun) way.once;
+      within = rw (concat_push done.chains begun) (along_within begun 0 way);
     }
 
-    along_again : (begun : List ℕ) (reached : ℕ) → Along v done begun reached → 1 ≤ reached → 1 ≤ occurrences reached (flat done.chains ++ begun) → ComesAgain s reached
+    along_again : (begun : List ℕ) (reached : ℕ) → Along v done begun reached → 1 ≤ reached → 1 ≤ occurrences reached (concat done.chains ++ begun) → ComesAgain s reached
     along_again begun reached way some met =
         let in_sheet = leads_within recorded way.leads (recorded.placed.each_position v there).first in
         let one = way.once reached some in_sheet in
@@ -113,37 +106,37 @@ module _ (s : List ℕ) (recorded : Recorded s) where
           again = omega arith;
         }
 
-    along_on : (begun : List ℕ) (reached : ℕ) → Along v done begun reached → 1 ≤ reached → occurrences reached (flat done.chains ++ begun) ≡ 0 → Along v done (begun ++ reached ∷ []) (next_record s reached)
+    along_on : (begun : List ℕ) (reached : ℕ) → Along v done begun reached → 1 ≤ reached → occurrences reached (concat done.chains ++ begun) ≡ 0 → Along v done (begun ++ reached ∷ []) (next_record s reached)
     along_on begun reached way some new = record {
       leads = leads_more way.leads some;
       once = λ j low high. let before = way.once j low high in
-          let regroup = ap (occurrences j) (sym (append_assoc (flat done.chains) begun (reached ∷ []))) in
-          let count = occurrences_append j (flat done.chains ++ begun) (reached ∷ []) in
+          let regroup = ap (occurrences j) (sym (append_assoc (concat done.chains) begun (reached ∷ []))) in
+          let count = occurrences_append j (concat done.chains ++ begun) (reached ∷ []) in
           elim (cases_eq j reached) [
             | inl same ↦ let itself = occurs_itself reached in
                 let at : occurrences j (reached ∷ []) ≡ occurrences reached (reached ∷ []) = ap (λ x. occurrences x (reached ∷ [])) same in
-                let zero_here : occurrences j (flat done.chains ++ begun) ≡ occurrences reached (flat done.chains ++ begun) = ap (λ x. occurrences x (flat done.chains ++ begun)) same in
+                let zero_here : occurrences j (concat done.chains ++ begun) ≡ occurrences reached (concat done.chains ++ begun) = ap (λ x. occurrences x (concat done.chains ++ begun)) same in
                 omega arith
             | inr apart ↦ let none = occurs_apart j reached apart in omega arith
           ];
     }
 
     -- to the end of the chain or to a record met before; no longer than there are records
-    go : (fuel : ℕ) (begun : List ℕ) (reached : ℕ) → Along v done begun reached → records s < fuel + length (flat done.chains ++ begun) → Chained s (v + 1) ⊎ ((k : ℕ) × ComesAgain s k)
+    go : (fuel : ℕ) (begun : List ℕ) (reached : ℕ) → Along v done begun reached → records s < fuel + length (concat done.chains ++ begun) → Chained s (v + 1) ⊎ ((k : ℕ) × ComesAgain s k)
     go zero begun reached way enough =
-        let short = once_short (records s) (flat done.chains ++ begun) (along_within begun reached way) way.once in
+        let short = once_short (records s) (concat done.chains ++ begun) (along_within begun reached way) way.once in
         absurd (omega arith)
     go (suc fuel) begun zero way enough = inl (along_ends begun way)
-    go (suc fuel) begun (suc r) way enough = elim (cases_eq (occurrences (suc r) (flat done.chains ++ begun)) 0) [
+    go (suc fuel) begun (suc r) way enough = elim (cases_eq (occurrences (suc r) (concat done.chains ++ begun)) 0) [
       | inr met ↦ inr (suc r, along_again begun (suc r) way (omega arith) (omega arith))
-      | inl new ↦ let longer = length-append (flat done.chains) (begun ++ suc r ∷ []) in
+      | inl new ↦ let longer = length-append (concat done.chains) (begun ++ suc r ∷ []) in
           let by_one = length-append begun (suc r ∷ []) in
-          let was = length-append (flat done.chains) begun in
+          let was = length-append (concat done.chains) begun in
           go fuel (begun ++ suc r ∷ []) (next_record s (suc r)) (along_on begun (suc r) way (omega arith) new) (omega arith)
     ]
 
     one_position : Chained s (v + 1) ⊎ ((k : ℕ) × ComesAgain s k)
-    one_position = go (suc (records s)) [] (first_record s v) (record { leads = here; once = rw (append-nil (flat done.chains)) done.once }) (omega arith)
+    one_position = go (suc (records s)) [] (first_record s v) (record { leads = here; once = rw (append-nil (concat done.chains)) done.once }) (omega arith)
 
   all_chains : (v : ℕ) → v ≤ positions s → Chained s v ⊎ ((k : ℕ) × ComesAgain s k)
   all_chains zero h = inl (record { chains = []; whole = record { count = refl; ended = λ u l. absurd (omega arith) }; once = λ j low high. omega arith; within = tt })
@@ -154,7 +147,7 @@ module _ (s : List ℕ) (recorded : Recorded s) where
   ]
 
   all_used : Chained s (positions s) → ((sites : List Site) × Describes s sites) ⊎ ((k : ℕ) × NeverComes s k)
-  all_used done = elim (lowest_to (λ j. cases_eq (occurrences j (flat done.chains)) 1) 1 (records s + 1) (omega arith)) [
+  all_used done = elim (lowest_to (λ j. cases_eq (occurrences j (concat done.chains)) 1) 1 (records s + 1) (omega arith)) [
     | inl all ↦ inl (described s 0 done.chains, (done.chains, record { recorded = recorded; chained = done.whole; each_once = λ k low high. all k low (omega arith) }, refl))
     | inr (k, lowest) ↦ inr (k, record { chains = done.chains; whole = done.whole; once = done.once; lowest = lowest })
   ]

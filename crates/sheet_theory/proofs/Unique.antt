@@ -1,16 +1,17 @@
 -- A sheet is read in one way, or refused for one reason.
 use Rattle.std.proofs.Common.{◌≡◌, ℕ, zero, suc, pred, ◌+◌, ◌-◌, ◌<◌, ◌≤◌, cond, eqb, ◌⊎◌, List, [], ◌∷◌, ◌++◌, length, get_or, take, sym, refl, ap, ◌∙◌, subst, inl, inr, arith, length-take}
+use Rattle.std.specs.List.{concat}
+use Rattle.std.proofs.lemmas.List.{get_or-take, ext_get_or}
 use Rattle.std.proofs.lemmas.Bool.{cases_order}
-use Rattle.toolkit.proofs.Lists.{same_lists_by}
 use Rattle.game.specs.Lowest.{LowestWithout}
 use Rattle.table.specs.Sites.{Site}
 use Rattle.sheet.specs.declared.fault.SheetFault.{SheetFault}
 use Rattle.sheet.specs.declared.fault.SheetFault.TheVariants.{Short, Version, Large, Length, Position, Record, Repeated, Unused}
 use Rattle.sheet.specs.Layout.{positions, records, first_record, Opened, Sized, Headed, Placed, Recorded}
-use Rattle.sheet.specs.Chains.{Leads, Chains, flat, occurrences, Fits, described, Describes}
+use Rattle.sheet.specs.Chains.{Leads, Chains, occurrences, Fits, described, Describes}
 use Rattle.sheet.specs.Chains.Leads.{here, along}
 use Rattle.sheet.specs.Refusals.{number_of, place_of, ComesAgain, NeverComes, Refuses}
-use Rattle.sheet.proofs.Marks.{occurrences_append, occurs_itself}
+use Rattle.sheet.proofs.Steps.{occurrences_append, occurs_itself}
 use Rattle.sheet.proofs.Gathered.{leads_within}
 
 -- one way ks from a record is the other, or goes on where the other stops
@@ -34,33 +35,26 @@ one_chain way way' = elim (two_ways way way') [
   | inr (inr (some, _)) ↦ absurd (omega arith)
 ]
 
-get_d_take_below : {A : Type 0} (xs : List A) (d : A) (n i : ℕ) → i < n → get_or (take n xs) i d ≡ get_or xs i d
-get_d_take_below [] d zero i h = refl
-get_d_take_below [] d (suc n) i h = refl
-get_d_take_below (x ∷ xs) d zero i h = absurd (omega arith)
-get_d_take_below (x ∷ xs) d (suc n) zero h = refl
-get_d_take_below (x ∷ xs) d (suc n) (suc i) h = get_d_take_below xs d n i (omega arith)
-
 -- the chains of fewer positions are the first of those of more
 chains_take : {s : List ℕ} {v w : ℕ} {chains : List (List ℕ)} → Chains s w chains → v ≤ w → Chains s v (take v chains)
 chains_take {s} {v} {chains = chains} whole h = record {
   count = let n = whole.count in length-take v chains ∙ omega arith;
-  ended = λ u below. rw (get_d_take_below chains [] v u below) (whole.ended u (omega arith));
+  ended = λ u below. rw (get_or-take v chains u [] below) (whole.ended u (omega arith));
 }
 
 one_chains : {s : List ℕ} {v : ℕ} {a b : List (List ℕ)} → Chains s v a → Chains s v b → a ≡ b
 one_chains {v = v} {a} {b} left right =
     let n = left.count in
     let m = right.count in
-    same_lists_by a b [] (omega arith) (λ i h. one_chain (left.ended i (omega arith)) (right.ended i (omega arith)))
+    ext_get_or [] a b (omega arith) (λ i h. one_chain (left.ended i (omega arith)) (right.ended i (omega arith)))
 
-flat_holds : (k : ℕ) (chains : List (List ℕ)) (v : ℕ) → v < length chains → occurrences k (flat (take v chains)) + occurrences k (get_or chains v []) ≤ occurrences k (flat chains)
-flat_holds k [] v h = absurd (omega arith)
-flat_holds k (c ∷ chains) zero h = let e = occurrences_append k c (flat chains) in omega arith
-flat_holds k (c ∷ chains) (suc v) h =
-    let a = occurrences_append k c (flat chains) in
-    let b = occurrences_append k c (flat (take v chains)) in
-    let r = flat_holds k chains v (omega arith) in
+concat_holds : (k : ℕ) (chains : List (List ℕ)) (v : ℕ) → v < length chains → occurrences k (concat (take v chains)) + occurrences k (get_or chains v []) ≤ occurrences k (concat chains)
+concat_holds k [] v h = absurd (omega arith)
+concat_holds k (c ∷ chains) zero h = let e = occurrences_append k c (concat chains) in omega arith
+concat_holds k (c ∷ chains) (suc v) h =
+    let a = occurrences_append k c (concat chains) in
+    let b = occurrences_append k c (concat (take v chains)) in
+    let r = concat_holds k chains v (omega arith) in
     omega arith
 
 -- where a way goes on past record e, e stands once more on it
@@ -72,14 +66,14 @@ once_more ks rest e =
     omega arith
 
 -- a record that comes again is twice in the chains that go past it
-twice_in : {s : List ℕ} {k w : ℕ} {chains : List (List ℕ)} → (c : ComesAgain s k) → Chains s w chains → c.position < w → 2 ≤ occurrences k (flat chains)
+twice_in : {s : List ℕ} {k w : ℕ} {chains : List (List ℕ)} → (c : ComesAgain s k) → Chains s w chains → c.position < w → 2 ≤ occurrences k (concat chains)
 twice_in {s} {k} {w} {chains} c whole past =
     let n = whole.count in
     let same : c.before ≡ take c.position chains = one_chains c.whole (chains_take whole (omega arith)) in
-    let parts = flat_holds k chains c.position (omega arith) in
-    let split = occurrences_append k (flat c.before) c.begun in
+    let parts = concat_holds k chains c.position (omega arith) in
+    let split = occurrences_append k (concat c.before) c.begun in
     let again = c.again in
-    let front = ap (λ cs. occurrences k (flat cs)) same in
+    let front = ap (λ cs. occurrences k (concat cs)) same in
     elim (two_ways c.leads (whole.ended c.position past)) [
       | inl (_, end) ↦ let some = c.record_there in absurd (omega arith)
       | inr (inl (_, (rest, e))) ↦ let more = once_more c.begun rest k in let there = ap (occurrences k) e in omega arith
@@ -93,18 +87,18 @@ comes_in recorded c = leads_within recorded c.leads (recorded.placed.each_positi
 not_further : {s : List ℕ} {k j : ℕ} → Recorded s → (c : ComesAgain s k) (d : ComesAgain s j) → c.position < d.position → ⊥
 not_further {k = k} recorded c d past =
     let twice = twice_in c d.whole past in
-    let split = occurrences_append k (flat d.before) d.begun in
+    let split = occurrences_append k (concat d.before) d.begun in
     let once = d.once k c.record_there (comes_in recorded c) in
     omega arith
 
 not_later : {s : List ℕ} {k j : ℕ} → Recorded s → (c : ComesAgain s k) (d : ComesAgain s j) → c.before ≡ d.before → (rest : List ℕ) → d.begun ≡ c.begun ++ k ∷ rest → ⊥
 not_later {k = k} recorded c d same rest e =
     let once = d.once k c.record_there (comes_in recorded c) in
-    let front = ap (λ cs. occurrences k (flat cs)) same in
+    let front = ap (λ cs. occurrences k (concat cs)) same in
     let there = ap (occurrences k) e in
     let more = once_more c.begun rest k in
-    let left = occurrences_append k (flat c.before) c.begun in
-    let right = occurrences_append k (flat d.before) d.begun in
+    let left = occurrences_append k (concat c.before) c.begun in
+    let right = occurrences_append k (concat d.before) d.begun in
     let again = c.again in
     omega arith
 
@@ -136,7 +130,7 @@ one_lowest {i = i} {j} a b = elim (cases_order i j) [
 one_never_comes : {s : List ℕ} {k j : ℕ} → NeverComes s k → NeverComes s j → k ≡ j
 one_never_comes {s} {k} {j} c d =
     let same = one_chains d.whole c.whole in
-    one_lowest c.lowest (subst (λ cs. LowestWithout (λ i. occurrences i (flat cs) ≡ 1) 1 (records s + 1) j) same d.lowest)
+    one_lowest c.lowest (subst (λ cs. LowestWithout (λ i. occurrences i (concat cs) ≡ 1) 1 (records s + 1) j) same d.lowest)
 
 -- What holds of a sheet that has come past the faults up to the number.
 abbrev Past : List ℕ → ℕ → Type 0
@@ -148,7 +142,7 @@ Past s (suc (suc (suc (suc zero)))) = Headed s
 Past s (suc (suc (suc (suc (suc zero))))) = Placed s
 Past s (suc (suc (suc (suc (suc (suc zero)))))) = Recorded s
 Past s (suc (suc (suc (suc (suc (suc (suc zero))))))) =
-    Recorded s × ((chains : List (List ℕ)) × Chains s (positions s) chains × ((j : ℕ) → 1 ≤ j → j ≤ records s → occurrences j (flat chains) ≤ 1))
+    Recorded s × ((chains : List (List ℕ)) × Chains s (positions s) chains × ((j : ℕ) → 1 ≤ j → j ≤ records s → occurrences j (concat chains) ≤ 1))
 Past s (suc (suc (suc (suc (suc (suc (suc (suc n)))))))) = (chains : List (List ℕ)) × Fits s chains
 
 past_before : (s : List ℕ) (n : ℕ) → Past s (suc n) → Past s n
@@ -195,7 +189,7 @@ not_past s (Unused k) r (chains, fits) =
     let never = r.1 in
     let end = never.lowest.before_end in
     let same = one_chains fits.chained never.whole in
-    never.lowest.lacks (ap (λ cs. occurrences k (flat cs)) (sym same) ∙ fits.each_once k never.lowest.from_start (omega arith))
+    never.lowest.lacks (ap (λ cs. occurrences k (concat cs)) (sym same) ∙ fits.each_once k never.lowest.from_start (omega arith))
 
 pub not_both : (s : List ℕ) (sites : List Site) (f : SheetFault) → Describes s sites → Refuses s f → ⊥
 not_both s sites f (chains, fits, _) r = not_past s f r (fit_past (number_of f) (number_low f))

@@ -1,6 +1,5 @@
 -- The sites of a table, and that its game keeps the laws.
 use Rattle.std.specs.Prelude.{List, vec_items}
-use Rattle.std.proofs.Common.{arith}
 use Rattle.game.specs.Game.{Lawful}
 use Rattle.table.specs.declared.table.Table.{Table}
 use Rattle.table.specs.Sites.{Site, sites_of, game_of}
@@ -9,11 +8,4 @@ abbrev pub sites : Table → List Site
 sites t = sites_of (vec_items t.positions)
 
 pub table_lawful : (t : Table) → Lawful (game_of (sites t))
-table_lawful t = record {
-  few_positions = let h = t.few in omega arith;
-  low_top = omega arith;
-  some_arc = t.leaves;
-  few_arcs = t.narrow;
-  target_inside = t.inside;
-  priority_low = t.low;
-}
+table_lawful t = t.lawful

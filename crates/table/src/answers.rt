@@ -1,6 +1,5 @@
 // What a table answers, as an arena and as one with names. Its top is always 7.
 ghost use Rattle.std.specs.Prelude.{◌≡◌, ◌<◌, ◌≤◌, [], length, MatchOption, slice_index_or};
-ghost use Rattle.std.specs.List.{slice_get};
 ghost use Rattle.table.specs.Tables.{sites, table_lawful};
 ghost use Rattle.table.specs.Sites.{game_of, names_of, nowhere, site_of};
 
@@ -27,14 +26,6 @@ impl Table {
     }
 }
 
-impl Position {
-    fn arc(&self, i: usize) -> Option<Arc>
-        ensures { result ≡ slice_get self.now.arcs.items i }
-    {
-        self.arcs.get(i).copied()
-    }
-}
-
 impl Arena for Table {
     ghost game = { λ t. game_of (sites t) };
 
@@ -49,18 +40,15 @@ impl Arena for Table {
     }
 
     fn mover(&self, v: usize) -> Option<Player> {
-        let position = self.position(v)?;
-        Some(position.mover)
+        self.position(v).map(|position| position.mover)
     }
 
     fn arc_count(&self, v: usize) -> Option<usize> {
-        let position = self.position(v)?;
-        Some(position.arcs.len())
+        self.position(v).map(|position| position.arcs.len())
     }
 
     fn arc(&self, v: usize, i: usize) -> Option<Arc> {
-        let position = self.position(v)?;
-        position.arc(i)
+        self.position(v)?.arcs.get(i).copied()
     }
 }
 
@@ -68,7 +56,6 @@ impl Named for Table {
     ghost names = { λ t. names_of (sites t) };
 
     fn name(&self, v: usize) -> Option<Name> {
-        let position = self.position(v)?;
-        Some(position.name)
+        self.position(v).map(|position| position.name)
     }
 }

@@ -1,5 +1,6 @@
 -- Two pieces written one behind the other are one piece.
-use Rattle.std.proofs.Common.{◌≡◌, ℕ, ◌+◌, ◌-◌, ◌≤◌, List, ◌++◌, length, take, drop, sym, ap, ◌∙◌, subst, append_assoc, arith, length-append, take-append-drop, drop-drop}
+use Rattle.std.proofs.Common.{◌≡◌, ℕ, ◌+◌, ◌-◌, ◌^◌, ◌<◌, ◌≤◌, decimal, lit<, List, ◌++◌, length, take, drop, sym, ap, ◌∙◌, subst, append_assoc, arith, length-append, take-append-drop, drop-drop}
+use Rattle.std.proofs.lemmas.Fmt.{length-decimal-le}
 use Rattle.text.specs.Output.{Appended, Written}
 
 drop_further : {A : Type 0} (xs ys : List A) (m n : ℕ) → m ≤ n → drop m xs ≡ drop m ys → drop n xs ≡ drop n ys
@@ -18,19 +19,15 @@ appended_join {at} {mid} {end} {p} {q} {old} {between} {new} first second =
       rest = second.rest ∙ drop_further between old mid end (omega arith) first.rest;
     }
 
+-- a number has at most 20 digits
+pub decimal_short : (n : ℕ) → n < 2 ^ 64 → length (decimal n) ≤ 20
+decimal_short n h = length-decimal-le 20 n (lit< tt) (omega arith) h
+
 -- what was written from the start on
-pub appended_all : {end : ℕ} {text old new : List ℕ} → Appended 0 text old end new → Written text old end new
-appended_all {end} {text} {old} {new} all =
+pub appended_all : {at end : ℕ} {text old before after new : List ℕ} → at ≡ 0 → before ≡ old → new ≡ after → Appended at text before end after → Written text old end new
+appended_all {at} {end} {text} {old} {before} {after} {new} start unchanged left all =
     let e = all.end_is in
     let same : end ≡ length text = omega arith in
-    record {
-      count = same;
-      bytes = sym (take-append-drop end new) ∙ ap (λ xs. xs ++ drop end new) all.front ∙ ap (λ xs. text ++ xs) (all.rest ∙ ap (λ n. drop n old) same);
-    }
-
--- what was written fits in the output
-pub written_fits : (n : ℕ) (text old new : List ℕ) → Written text old n new → n ≤ length new
-written_fits n text old new all =
-    let count = all.count in
-    let long = ap length all.bytes ∙ length-append text (drop (length text) old) in
-    omega arith
+    let front : take end after ≡ text = all.front ∙ rw start in
+    let rest : drop end after ≡ drop (length text) old = all.rest ∙ rw (same, unchanged) in
+    record { count = same; bytes = left ∙ sym (take-append-drop end after) ∙ rw (front, rest) }

@@ -2,7 +2,9 @@
 #![tactic(auto)]
 
 mod fault;
+mod line;
 mod pieces;
 
-pub use fault::OutputFault;
-pub use pieces::{append, append_decimal};
+pub use fault::{Fault, OutputFault};
+pub use line::refusal_line;
+pub use pieces::Text;

@@ -1,32 +1,44 @@
-// One piece of text after another. Each call is told where the text so far ends, and replies where it ends then; past that the
-// output stays as it was.
-ghost use Rattle.std.specs.Prelude.{◌≡◌, ◌+◌, ◌%◌, ◌≤◌, ◌++◌, length, decimal};
+// One piece of text after another, written into a lent output. Past the text so far the output stays as it was.
+ghost use Rattle.std.specs.Prelude.{◌≡◌, ◌+◌, ◌≤◌, length, decimal};
 ghost use Rattle.text.specs.Output.{Appended};
 
-pub fn append(output: &mut [u8], at: usize, piece: &[u8]) -> usize
-    requires { at + length piece.now ≤ length output.old }
-    ensures { Appended at piece.now output.old result output.new }
-{
-    let end = at + piece.len();
-    output[at..end].copy_from_slice(piece);
-    end
+use itoa::Buffer;
+
+// The text so far: the first `written` bytes of a lent output.
+#[derive(Drop)]
+pub struct Text<'a> {
+    pub output: &'a mut [u8],
+    pub written: usize,
 }
 
-// A number as `{}` writes it.
-pub fn append_decimal(output: &mut [u8], at: usize, n: usize) -> usize
-    requires { at + length (decimal n) ≤ length output.old }
-    ensures { Appended at (decimal n) output.old result output.new }
-{
-    let digit = [last_digit(n)];
-    if n < 10 {
-        return append(output, at, &digit);
+impl<'a> Text<'a> {
+    // No text yet.
+    pub fn over(output: &'a mut [u8]) -> Text<'a>
+        ensures same_reference { result.output.ghost_name ≡ output.entry.ghost_name }
+        ensures empty { result.written ≡ 0 }
+        ensures unchanged { result.output.now ≡ output.old }
+    {
+        Text { output, written: 0 }
     }
-    let end = append_decimal(output, at, n / 10);
-    append(output, end, &digit)
-}
 
-fn last_digit(n: usize) -> u8
-    ensures { result ≡ 48 + n % 10 }
-{
-    b'0' + (n % 10) as u8
+    pub fn push(&mut self, piece: &[u8])
+        requires { self.old.written + length piece.now ≤ length self.old.output.now }
+        ensures same_reference { self.new.output.ghost_name ≡ self.old.output.ghost_name }
+        ensures room { length self.new.output.now ≡ length self.old.output.now }
+        ensures appended { Appended self.old.written piece.now self.old.output.now self.new.written self.new.output.now }
+    {
+        let end = self.written + piece.len();
+        self.output[self.written..end].copy_from_slice(piece);
+        self.written = end;
+    }
+
+    // A number as `{}` writes it.
+    pub fn push_decimal(&mut self, n: usize)
+        requires { self.old.written + length (decimal n) ≤ length self.old.output.now }
+        ensures same_reference { self.new.output.ghost_name ≡ self.old.output.ghost_name }
+        ensures room { length self.new.output.now ≡ length self.old.output.now }
+        ensures appended { Appended self.old.written (decimal n) self.old.output.now self.new.written self.new.output.now }
+    {
+        self.push(Buffer::new().format(n).as_bytes());
+    }
 }

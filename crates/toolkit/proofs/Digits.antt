@@ -17,27 +17,13 @@ digits_more n k d = refl
 pub digits_below : (n k : ℕ) (d : ℕ → ℕ) → ((i : ℕ) → i < k → d i < n) → digits n k d < n ^ k
 digits_below n zero d low = rw (digits_none n d, pow-zero n) (omega arith)
 digits_below n (suc k) d low =
-    let more = digits_below n k d (λ i l. low i (omega arith)) in
-    let e = digits_more n k d in
     let top : suc (d k) * n ^ k ≤ n * n ^ k = mul-le-mul_right (n ^ k) (low k (omega arith)) in
-    let s = suc-mul (d k) (n ^ k) in
-    let p = pow-suc n k in
-    let c = mul_comm n (n ^ k) in
-    omega arith
+    grind (arith, digits_more, digits_below n k d (λ i l. low i (omega arith)), suc-mul, pow-suc)
 
 -- the digits from j on, and those below j
 pub digits_split : (n j m : ℕ) (d : ℕ → ℕ) → digits n (j + m) d ≡ digits n m (λ i. d (j + i)) * n ^ j + digits n j d
-digits_split n j zero d =
-    let a = ap (λ k. digits n k d) (add-zero j) in
-    let z = ap (λ x. x * n ^ j) (digits_none n (λ i. d (j + i))) ∙ zero-mul (n ^ j) in
-    omega arith
-digits_split n j (suc m) d =
-    let a = ap (λ k. digits n k d) (add-suc j m) in
-    let b = digits_more n (j + m) d in
-    let below = digits_split n j m d in
-    let c = ap (λ x. x * n ^ j) (digits_more n m (λ i. d (j + i))) ∙ add-mul (d (j + m) * n ^ m) (digits n m (λ i. d (j + i))) (n ^ j) in
-    let e = ap (λ x. d (j + m) * x) (pow-add n j m ∙ mul_comm (n ^ j) (n ^ m)) ∙ sym (mul_assoc (d (j + m)) (n ^ m) (n ^ j)) in
-    omega arith
+digits_split n j zero d = grind (arith, digits_none, add-zero j, zero-mul)
+digits_split n j (suc m) d = rw add-suc (grind (arith, digits_split n j m d, digits_more, pow-add, add-mul, mul_assoc, mul_comm))
 
 -- division by n ^ j drops the digits below j
 pub digits_quotient : (n j m : ℕ) (d : ℕ → ℕ) → ((i : ℕ) → i < j → d i < n) → digits n (j + m) d / n ^ j ≡ digits n m (λ i. d (j + i))
@@ -54,20 +40,9 @@ digits_monotone n k d e h = sum_monotone k (λ j. d j * n ^ j) (λ j. e j * n ^ 
 
 -- the lowest digit lower by c at least, and no other higher
 digits_lower : (n m c : ℕ) (d e : ℕ → ℕ) → d 0 + c ≤ e 0 → ((i : ℕ) → 0 < i → i < suc m → d i ≤ e i) → digits n (suc m) d + c ≤ digits n (suc m) e
-digits_lower n zero c d e lowest more =
-    let a = digits_more n 0 d in
-    let b = digits_more n 0 e in
-    let x = ap (λ p. d 0 * p) (pow-zero n) in
-    let y = ap (λ p. e 0 * p) (pow-zero n) in
-    let f = digits_none n d in
-    let g = digits_none n e in
-    omega arith
+digits_lower n zero c d e lowest more = grind (arith, digits_more, digits_none, pow-zero)
 digits_lower n (suc m) c d e lowest more =
-    let a = digits_more n (suc m) d in
-    let b = digits_more n (suc m) e in
-    let below = digits_lower n m c d e lowest (λ i h l. more i h (omega arith)) in
-    let top = mul-le-mul_right (n ^ suc m) (more (suc m) (omega arith) (omega arith)) in
-    omega arith
+    grind (arith, digits_more, digits_lower n m c d e lowest (λ i h l. more i h (omega arith)), mul-le-mul_right (n ^ suc m) (more (suc m) (omega arith) (omega arith)))
 
 -- Two numbers of k digits: no digit above j of the first is higher, and its digit j is lower by c at least.
 module _ (n k j c : ℕ) (d e : ℕ → ℕ) (low : (i : ℕ) → i < k → (d i < n) × (e i < n)) (inside : j < k) (above : (i : ℕ) → j < i → i < k → d i ≤ e i) (here : d j + c ≤ e j) where

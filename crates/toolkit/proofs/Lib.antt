@@ -6,4 +6,3 @@ pub mod Walks
 pub mod Reachability
 pub mod Digits
 pub mod Laws
-pub mod Lists

@@ -1,6 +1,7 @@
 -- The pigeonhole principle, and its use: a play among finitely many positions comes back.
-use Rattle.std.proofs.Common.{◌≡◌, ℕ, zero, suc, ◌+◌, ◌-◌, ◌<◌, ◌≤◌, cond, eqb, ◌⊎◌, sym, ap, ◌∙◌, inl, inr, suc-add, zero-add, arith}
-use Rattle.std.proofs.lemmas.Bool.{cases_eq, cond-true, cond-false, eq-eqb, ne_eqb}
+use Rattle.std.proofs.Common.{◌≡◌, ℕ, zero, suc, ◌+◌, ◌-◌, ◌<◌, ◌≤◌, cond, eqb, sym, ap, ◌∙◌, inl, inr, suc-add, zero-add, arith}
+use Rattle.std.proofs.lemmas.Bool.{cases_eq}
+use Rattle.std.proofs.lemmas.Bool.Decides.{nat_tests}
 use Rattle.toolkit.specs.Finite.{Twice, after}
 use Rattle.toolkit.proofs.Search.{seek}
 
@@ -8,15 +9,9 @@ use Rattle.toolkit.proofs.Search.{seek}
 spared : ℕ → ℕ → (ℕ → ℕ) → ℕ → ℕ
 spared n y f i = cond (eqb (f i) n) y (f i)
 
-spared_is : (n y : ℕ) (f : ℕ → ℕ) (i : ℕ) → ((f i ≡ n) × (spared n y f i ≡ y)) ⊎ ((f i ≡ n → ⊥) × (spared n y f i ≡ f i))
-unfolding spared
-spared_is n y f i = elim (cases_eq (f i) n) [
-  | inl e ↦ inl (e, cond-true (eqb (f i) n) y (f i) (eq-eqb (f i) n e))
-  | inr apart ↦ inr (apart, cond-false (eqb (f i) n) y (f i) (ne_eqb (f i) n apart))
-]
-
 -- n + 1 numbers below n: two of them are the same
 pub pigeonhole : (n : ℕ) (f : ℕ → ℕ) → ((i : ℕ) → i ≤ n → f i < n) → Twice n f
+unfolding spared
 pigeonhole zero f below = let h = below 0 (omega arith) in absurd (omega arith)
 pigeonhole (suc n) f below = elim (seek {P = λ i. f i ≡ f (suc n)} {Q = λ i. f i ≡ f (suc n) → ⊥} (suc n) (λ i h. cases_eq (f i) (f (suc n)))) [
   | inl found ↦ (found.0, suc n, found.1, omega arith, found.2)
@@ -24,19 +19,10 @@ pigeonhole (suc n) f below = elim (seek {P = λ i. f i ≡ f (suc n)} {Q = λ i.
 ]
   where
     smaller : ((i : ℕ) → i < suc n → f i ≡ f (suc n) → ⊥) → (i : ℕ) → i ≤ n → spared n (f (suc n)) f i < n
-    smaller new i h =
-        let here = below i (omega arith) in
-        let end = below (suc n) (omega arith) in
-        let apart = new i (omega arith) in
-        elim (spared_is n (f (suc n)) f i) [ inl e ↦ omega arith | inr e ↦ omega arith ]
+    smaller new i h = grind (arith, nat_tests, below i, below (suc n), new i)
 
     lifted : ((i : ℕ) → i < suc n → f i ≡ f (suc n) → ⊥) → Twice n (spared n (f (suc n)) f) → Twice (suc n) f
-    lifted new (i, j, less, l, e) =
-        let apart_i = new i (omega arith) in
-        let apart_j = new j (omega arith) in
-        let at_i = spared_is n (f (suc n)) f i in
-        let at_j = spared_is n (f (suc n)) f j in
-        (i, j, less, omega arith, omega arith)
+    lifted new (i, j, less, l, e) = (i, j, less, omega arith, grind (arith, nat_tests, new i, new j))
 
 pub after_more : (next : ℕ → ℕ) (v i d : ℕ) → after next v (i + d) ≡ after next (after next v i) d
 after_more next v zero d = ap (λ k. after next v k) (zero-add d)

@@ -1,6 +1,7 @@
 -- The test of reachability agrees with walks.
-use Rattle.std.proofs.Common.{◌≡◌, ℕ, zero, suc, ◌<◌, ◌≤◌, Bool, true, ◌&&◌, eqb, ltb, ◌⊎◌, List, [], ◌∷◌, ◌++◌, refl, inl, inr, arith}
-use Rattle.std.proofs.lemmas.Bool.{cases_eq, eqb-true, eq-eqb, ltb-true, lt-ltb, and_parts, and_from, or_cases, or_left, or_right}
+use Rattle.std.proofs.Common.{◌≡◌, ℕ, zero, suc, ◌<◌, ◌≤◌, Bool, true, eqb, ◌⊎◌, List, [], ◌∷◌, ◌++◌, inl, inr, arith}
+use Rattle.std.proofs.lemmas.Bool.{eqb-true, or_cases}
+use Rattle.std.proofs.lemmas.Bool.Decides.{nat_tests}
 use Rattle.game.specs.Plans.{Walk}
 use Rattle.game.specs.Plans.Walk.{stay, step}
 use Rattle.toolkit.specs.Reachability.{via, reach, Joins, ReachExact}
@@ -9,66 +10,28 @@ use Rattle.toolkit.proofs.Walks.{walk_joined, walk_mapped, walk_related}
 module _ (edge : ℕ → ℕ → Bool) where
   via_self : (k u : ℕ) → via k edge u u ≡ true
   unfolding via
-  via_self zero u = or_left (eqb u u) (edge u u) (eq-eqb u u refl)
-  via_self (suc k) u = or_left (via k edge u u) (via k edge u k && via k edge k u) (via_self k u)
+  via_self zero u = grind (arith, nat_tests)
+  via_self (suc k) u = grind (arith, via_self k u)
 
   via_step : (k u v : ℕ) → edge u v ≡ true → via k edge u v ≡ true
   unfolding via
-  via_step zero u v e = or_right (eqb u v) (edge u v) e
-  via_step (suc k) u v e = or_left (via k edge u v) (via k edge u k && via k edge k v) (via_step k u v e)
-
-  via_less : (k u v : ℕ) → via k edge u v ≡ true → via (suc k) edge u v ≡ true
-  unfolding via
-  via_less k u v e = or_left (via k edge u v) (via k edge u k && via k edge k v) e
-
-  via_more : (k u v : ℕ) → via k edge u k ≡ true → via k edge k v ≡ true → via (suc k) edge u v ≡ true
-  unfolding via
-  via_more k u v a b = or_right (via k edge u v) (via k edge u k && via k edge k v) (and_from (via k edge u k) (via k edge k v) a b)
-
-  via_cases : (k u v : ℕ) → via (suc k) edge u v ≡ true → (via k edge u v ≡ true) ⊎ ((via k edge u k ≡ true) × (via k edge k v ≡ true))
-  unfolding via
-  via_cases k u v e = elim (or_cases (via k edge u v) (via k edge u k && via k edge k v) e) [
-    | inl a ↦ inl a
-    | inr b ↦ inr (and_parts (via k edge u k) (via k edge k v) b)
-  ]
-
-  -- to k, and from k, the way needs k but at its end
-  via_to : (k u : ℕ) → via (suc k) edge u k ≡ true → via k edge u k ≡ true
-  via_to k u e = elim (via_cases k u k e) [ inl a ↦ a | inr b ↦ b.0 ]
-
-  via_from : (k v : ℕ) → via (suc k) edge k v ≡ true → via k edge k v ≡ true
-  via_from k v e = elim (via_cases k k v e) [ inl a ↦ a | inr b ↦ b.1 ]
+  via_step zero u v e = grind (arith, nat_tests)
+  via_step (suc k) u v e = grind (arith, via_step k u v)
 
   -- ways join at any position that may be inner
   via_joined : (k x u v : ℕ) → x < k → via k edge u x ≡ true → via k edge x v ≡ true → via k edge u v ≡ true
+  unfolding via
   via_joined zero x u v h a b = absurd (omega arith)
-  via_joined (suc k) x u v h a b = elim (cases_eq x k) [
-    | inl e ↦ via_more k u v (via_to k u (rw e at a)) (via_from k v (rw e at b))
-    | inr apart ↦
-        let l : x < k = omega arith in
-        elim (via_cases k u x a) [
-          | inl ux ↦ elim (via_cases k x v b) [
-            | inl xv ↦ via_less k u v (via_joined k x u v l ux xv)
-            | inr xkv ↦ via_more k u v (via_joined k x u k l ux xkv.0) xkv.1
-          ]
-          | inr ukx ↦ elim (via_cases k x v b) [
-            | inl xv ↦ via_more k u v ukx.0 (via_joined k x k v l ukx.1 xv)
-            | inr xkv ↦ via_more k u v ukx.0 xkv.1
-          ]
-        ]
-  ]
+  via_joined (suc k) x u v h a b = grind (arith, via_joined k x u v, via_joined k x u k, via_joined k x k v)
 
 module _ (n : ℕ) (edge : ℕ → ℕ → Bool) where
   reach_parts : (u v : ℕ) → reach n edge u v ≡ true → (u < n) × (v < n) × (via n edge u v ≡ true)
   unfolding reach
-  reach_parts u v e =
-      let one = and_parts (ltb u n) (ltb v n && via n edge u v) e in
-      let two = and_parts (ltb v n) (via n edge u v) one.1 in
-      (ltb-true u n one.0, ltb-true v n two.0, two.1)
+  reach_parts u v e = grind (arith, nat_tests)
 
   reach_from : (u v : ℕ) → u < n → v < n → via n edge u v ≡ true → reach n edge u v ≡ true
   unfolding reach
-  reach_from u v h l e = and_from (ltb u n) (ltb v n && via n edge u v) (lt-ltb u n h) (and_from (ltb v n) (via n edge u v) (lt-ltb v n l) e)
+  reach_from u v h l e = grind (arith, nat_tests)
 
   pub reach_inside : (u v : ℕ) → reach n edge u v ≡ true → (u < n) × (v < n)
   reach_inside u v e = let parts = reach_parts u v e in (parts.0, parts.1)
@@ -85,13 +48,17 @@ module _ (n : ℕ) (edge : ℕ → ℕ → Bool) where
       let two = reach_parts x v b in
       reach_from u v one.0 two.1 (via_joined edge n x u v one.1 one.2 two.2)
 
+  via_cases : (k u v : ℕ) → via (suc k) edge u v ≡ true → (via k edge u v ≡ true) ⊎ ((via k edge u k ≡ true) × (via k edge k v ≡ true))
+  unfolding via
+  via_cases k u v e = grind arith
+
   via_walk : (k u v : ℕ) → k ≤ n → u < n → v < n → via k edge u v ≡ true → (ps : List ℕ) × Walk (Joins n edge) u v ps
   unfolding via
   via_walk zero u v h a b e = elim (or_cases (eqb u v) (edge u v) e) [
     | inl same ↦ ([], rw (eqb-true u v same) stay)
     | inr there ↦ (0 ∷ [], step (a, b, there) stay)
   ]
-  via_walk (suc k) u v h a b e = elim (via_cases edge k u v e) [
+  via_walk (suc k) u v h a b e = elim (via_cases k u v e) [
     | inl less ↦ via_walk k u v (omega arith) a b less
     | inr parts ↦
         let one = via_walk k u k (omega arith) a (omega arith) parts.0 in

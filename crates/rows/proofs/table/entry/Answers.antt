@@ -1,10 +1,8 @@
-use Rattle.std.proofs.Common.{rules}
+use Rattle.std.proofs.Common.{◌∙◌, arith}
 use Rattle.rows.proofs.Binomials.{entry_is}
 use Rattle.rows.proofs.table.entry.Goals as goal
 
-pub returns : goal.returns
-returns c =
-    record {
-      value = entry_is c.table.result.now c.table.ensures.lawful c.table.ensures.whole c.args.a c.args.b c.requires.left c.requires.right;
-      small = search rules;
-    }
+pub returns-clause-value : goal.returns-clause-value
+returns-clause-value c =
+    let whole = c.table.ensures.whole in
+    c.from.ensures ∙ entry_is c.table.result.now c.table.ensures.lawful c.args.a c.args.b (omega arith) c.requires.right

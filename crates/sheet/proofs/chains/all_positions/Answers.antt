@@ -8,7 +8,7 @@ use Rattle.sheet.proofs.chains.all_positions.Goals as goal
 pub returns-in_err-position : goal.returns-in_err-position
 returns-in_err-position c =
     let p = err_from_is_err_and c.from_residual.result c.from_residual.ensures.1 in
-    rw (p.1, p.2) (all_stop c.position.new.used c.requires.recorded c.loop-v-test.true c.loop-v.invariant c.in_err-position.field-0.0 c.in_err-position.ensures)
+    rw (p.1, p.2) (all_stop c.position.new.marks.marked c.args.sheet.now.recorded (rw (← c.positions-v-end.ensures) c.loop-v-test.true) c.loop-v.invariant c.in_err-position.field-0.0 c.in_err-position.ensures)
 
 pub loop-v-preserved : goal.loop-v-preserved
 loop-v-preserved c =

@@ -4,4 +4,4 @@ use Rattle.sheet.specs.Reading.{AllRead}
 use Rattle.sheet.proofs.chains.all_positions.Given as goal
 
 abbrev pub invariant-loop-v : goal.invariant-loop-v
-invariant-loop-v l = AllRead l.sheet l.v l.used (sites_of (vec_items l.all))
+invariant-loop-v l = AllRead l.sheet.sheet.bytes.now l.v l.marks.marked (sites_of (vec_items l.all))

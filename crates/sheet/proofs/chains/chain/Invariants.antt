@@ -1,9 +1,9 @@
-use Rattle.std.proofs.Common.{vec_items}
-use Rattle.sheet.proofs.Marks.{UnderWay, spare}
+use Rattle.std.proofs.Common.{vec_items, not, count_by}
+use Rattle.sheet.proofs.Steps.{UnderWay}
 use Rattle.sheet.proofs.chains.chain.Given as goal
 
 abbrev pub invariant-loop-reached : goal.invariant-loop-reached
-invariant-loop-reached l = UnderWay l.sheet l.v l.initial.used l.used l.reached (vec_items l.arcs)
+invariant-loop-reached l = UnderWay l.sheet.sheet.bytes.now l.v l.initial.marks.marked l.marks.marked l.reached (vec_items l.arcs)
 
 abbrev pub decreases-loop-reached : goal.decreases-loop-reached
-decreases-loop-reached l = spare l.used
+decreases-loop-reached l = count_by not l.marks.marked

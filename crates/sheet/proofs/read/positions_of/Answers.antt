@@ -1,12 +1,17 @@
-use Rattle.std.proofs.lemmas.Result.{err_from_is_err_and}
+use Rattle.std.proofs.Common.{◌≡◌, ◌∙◌}
 use Rattle.sheet.proofs.Gathered.{describes_from, never_comes_from}
 use Rattle.sheet.proofs.read.positions_of.Goals as goal
 
-pub returns-in_err-check_used : goal.returns-in_err-check_used
-returns-in_err-check_used c =
-    let p = err_from_is_err_and c.from_residual-in_err-check_used.result c.from_residual-in_err-check_used.ensures.1 in
-    let (k, is, lowest) = c.in_err-check_used.ensures in
-    rw (p.1, p.2, is) (c.in_ok-check_records.ensures, never_comes_from c.in_ok-check_records.ensures c.in_ok-positions.ensures lowest)
+pub returns-in-Some : goal.returns-in-Some
+returns-in-Some c =
+    let same : c.in_ok-recorded.recorded.sheet.bytes.now ≡ c.args.sheet.now = c.in_ok-recorded.ensures ∙ c.in_ok-placed.ensures ∙ c.in_ok-headed.ensures in
+    let recorded = c.in_ok-recorded.recorded.recorded in
+    let lowest = rw c.records.ensures at c.in-Some.ensures in
+    rw (← same) (recorded, never_comes_from recorded c.in_ok-positions.ensures lowest)
 
-pub returns : goal.returns
-returns c = describes_from c.in_ok-check_records.ensures c.in_ok-positions.ensures c.in_ok-check_used.ensures
+pub returns-in-None : goal.returns-in-None
+returns-in-None c =
+    let same : c.in_ok-recorded.recorded.sheet.bytes.now ≡ c.args.sheet.now = c.in_ok-recorded.ensures ∙ c.in_ok-placed.ensures ∙ c.in_ok-headed.ensures in
+    let recorded = c.in_ok-recorded.recorded.recorded in
+    let marked = rw c.records.ensures at c.in-None.ensures in
+    rw (← same) (describes_from recorded c.in_ok-positions.ensures marked)

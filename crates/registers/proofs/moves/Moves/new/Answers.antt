@@ -1,36 +1,17 @@
-use Rattle.registers.proofs.Rows.{rows_found}
+use Rattle.std.proofs.Common.{lit<, arith}
+use Rattle.registers.specs.Arcs.{few_rows}
+use Rattle.registers.proofs.Reading.{moves_more}
 use Rattle.registers.proofs.moves.Moves.new.Goals as goal
 
-pub update_table-requires : goal.update_table-requires
-update_table-requires c =
-    record {
-      some = c.requires.some;
-      few = c.requires.few;
-      low = c.requires.low;
-      counted = rows_found c.args.registers c.args.top c.in-Some.count c.requires.some c.requires.few c.requires.low c.in-Some.ensures;
-    }
+pub push-requires : goal.push-requires
+push-requires c =
+    let h = few_rows c.args.shape.registers c.args.shape.top c.args.shape.few c.args.shape.low in
+    (lit< tt, omega arith)
 
-pub step_table-requires : goal.step_table-requires
-step_table-requires c =
-    record {
-      some = c.requires.some;
-      few = c.requires.few;
-      low = c.requires.low;
-      counted = rows_found c.args.registers c.args.top c.in-Some.count c.requires.some c.requires.few c.requires.low c.in-Some.ensures;
-    }
-
-pub invariant_of-result : goal.invariant_of-result
-invariant_of-result c =
-    let counted = rows_found c.args.registers c.args.top c.in-Some.count c.requires.some c.requires.few c.requires.low c.in-Some.ensures in
-    let updates = c.in_ok-updates.ensures in
-    let steps = c.in_ok-steps.ensures in
-    record {
-      some = c.requires.some;
-      few = c.requires.few;
-      low = c.requires.low;
-      counted = counted;
-      wide = updates.whole;
-      deep = steps.whole;
-      updated = updates.each;
-      stepped = steps.each;
-    }
+pub loop-k-preserved : goal.loop-k-preserved
+loop-k-preserved c =
+    let shape = c.args.shape in
+    let (long, each) = c.loop-k.invariant in (
+      omega arith,
+      rw c.push.ensures.items (moves_more shape.registers shape.top c.loop-k.by_row.items c.moves.result each (rw long c.moves.ensures)),
+    )

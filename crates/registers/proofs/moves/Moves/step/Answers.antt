@@ -1,15 +1,11 @@
-use Rattle.std.proofs.Common.{◌+◌, vec_items, arith}
-use Rattle.registers.specs.Tables.{step_at, no_step}
-use Rattle.registers.proofs.Reading.{column_inside, column_read}
+use Rattle.std.proofs.Common.{None, ◌∙◌, arith}
+use Rattle.registers.proofs.Reading.{moves_found}
 use Rattle.registers.proofs.moves.Moves.step.Goals as goal
 
-pub index-requires : goal.index-requires
-index-requires c =
-    let s = c.args.self.now in
-    let h = column_inside s.count (s.registers + 1) c.args.k c.args.j (omega arith) (omega arith) in
-    omega arith
+pub returns-in_err-get : goal.returns-in_err-get
+returns-in_err-get c =
+    c.from_residual.ensures ∙ c.in_err-get.ensures.lookup.4 (omega arith) None ∙ (moves_found c.args.self.now c.args.k c.requires _ _ c.deref.ensures.0).steps c.args.j
 
 pub returns : goal.returns
 returns c =
-    let s = c.args.self.now in
-    column_read no_step s.count (s.registers + 1) (step_at s.registers s.top) (vec_items s.steps) s.deep s.stepped c.args.k c.args.j c.index.result.now (omega arith) (omega arith) c.index.ensures
+    c.in_ok-get.ensures.lookup.4 (omega arith) None ∙ (moves_found c.args.self.now c.args.k c.requires _ _ c.deref.ensures.0).steps c.args.j

@@ -1,0 +1,19 @@
+-- The players as bytes and as words.
+use Rattle.std.specs.Prelude.{◌≡◌, ℕ, ◌<◌, List, Result, MatchResult, codes}
+use Rattle.game.specs.declared.Player.{Player}
+use Rattle.game.specs.declared.Player.TheVariants.{Even, Odd}
+use Rattle.game.specs.declared.NoPlayer.{NoPlayer}
+
+-- The byte of a player, in sheets and in plans.
+abbrev pub byte_of : Player → ℕ
+byte_of Even = 0
+byte_of Odd = 1
+
+-- The result is the player with this byte, or an error with a byte that is neither player's.
+abbrev pub Decodes : ℕ → Result Player NoPlayer → Type 0
+Decodes byte r = MatchResult r (λ player. byte_of player ≡ byte) (λ e. (e.0 ≡ byte) × (1 < byte))
+
+-- The word that a program prints for a player.
+abbrev pub word_of : Player → List ℕ
+word_of Even = codes "even"
+word_of Odd = codes "odd"

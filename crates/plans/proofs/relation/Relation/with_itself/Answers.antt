@@ -1,0 +1,5 @@
+use Rattle.std.proofs.Common.{rules}
+use Rattle.plans.proofs.relation.Relation.with_itself.Goals as goal
+
+pub returns : goal.returns
+returns c = λ u v hu hv. let h = c.of.ensures u v hu hv in search rules

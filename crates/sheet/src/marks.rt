@@ -1,0 +1,39 @@
+// Which arc records the chains have reached so far.
+ghost use Rattle.std.specs.Prelude.{◌≡◌, ℕ, ◌+◌, ◌<◌, ◌≤◌, true, false, not, replicate, MatchOption, slice_index_or, slice_set};
+ghost use Rattle.game.specs.Lowest.{LowestWithout};
+
+use std::mem;
+
+// A mark for each of the record numbers 0 to 48.
+#[derive(Drop)]
+pub struct Marks {
+    marked: [bool; 49],
+}
+
+impl Marks {
+    pub fn none() -> Marks
+        ensures { result.marked ≡ replicate 49 false }
+    {
+        Marks {
+            marked: [false; 49],
+        }
+    }
+
+    // Marks record k; false where it was marked before.
+    pub fn mark(&mut self, k: usize) -> bool
+        requires { k < 49 }
+        ensures fresh { result ≡ not (slice_index_or self.old.marked k false) }
+        ensures marked { self.new.marked ≡ slice_set self.old.marked k true }
+    {
+        !mem::replace(&mut self.marked[k], true)
+    }
+
+    // The lowest of the first records that has no mark.
+    pub fn lowest_unmarked(&self, records: usize) -> Option<usize>
+        requires { records ≤ 48 }
+        ensures { let marked = λ (k : ℕ). slice_index_or self.now.marked k false ≡ true
+            in MatchOption result ((k : ℕ) → 1 ≤ k → k < records + 1 → marked k) (LowestWithout marked 1 (records + 1)) }
+    {
+        (1..records + 1).find(|k| !self.marked[*k])
+    }
+}
