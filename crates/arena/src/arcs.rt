@@ -37,6 +37,7 @@ impl<A: Arena> Iterator for Arcs<'_, A> {
     #[tactic(auto, using(crate::proofs::Left::one_more, crate::proofs::Left::none_left, crate::proofs::Left::few_before))]
     fn next(&mut self) -> Option<Arc> {
         let arc = self.arena.arc(self.position, self.next)?;
+        // counted by hand: this is what others go by
         self.next += 1;
         Some(arc)
     }

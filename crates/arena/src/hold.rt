@@ -32,7 +32,8 @@ impl<A> Hold<A> {
         }
     }
 
-    // Sets the entry of a position.
+    // Sets the entry of a position. One that has no entry is refused, and nothing changed. (The three clauses of this call and the next are
+    // those of `enter`: a reader finds them at the call.)
     pub fn set(&mut self, v: usize, i: usize) -> Result<(), NoEntry>
         ensures done { is_ok result ≡ nat_lt v 16 }
         ensures below { self.new.below ≡ self.old.below }
@@ -41,7 +42,7 @@ impl<A> Hold<A> {
         self.enter(v, Some(i))
     }
 
-    // Frees the entry of a position.
+    // Frees the entry of a position, or refuses it as `set` does.
     pub fn clear(&mut self, v: usize) -> Result<(), NoEntry>
         ensures done { is_ok result ≡ nat_lt v 16 }
         ensures below { self.new.below ≡ self.old.below }
@@ -50,7 +51,7 @@ impl<A> Hold<A> {
         self.enter(v, None)
     }
 
-    // Writes an entry; a position that has none is refused, and nothing changed.
+    // Writes the entry of a position, set or free.
     fn enter(&mut self, v: usize, entry: Option<usize>) -> Result<(), NoEntry>
         ensures done { is_ok result ≡ nat_lt v 16 }
         ensures below { self.new.below ≡ self.old.below }

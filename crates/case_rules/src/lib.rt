@@ -1,5 +1,5 @@
 // The rules of a case: what each of its calls answers, as a relation between states, and what is promised of any list of them. These are
-// definitions in specs/; here are the answers that are enums, with their numbers and places.
+// definitions in specs/; here are the faults of the calls, with their numbers and places, and the numbers of verdicts.
 #![tactic(auto)]
 
 mod fault;

@@ -9,8 +9,7 @@ pub fn verdict_number(verdict: Option<Player>) -> usize
     ensures { result ≡ verdict_number verdict }
 {
     match verdict {
-        Some(Player::Even) => 0,
-        Some(Player::Odd) => 1,
+        Some(player) => usize::from(u8::from(player)),
         None => 2,
     }
 }

@@ -3,11 +3,11 @@ use Rattle.std.specs.Prelude.{◌≡◌, ℕ, ◌<◌, List, Result, MatchResult
 use Rattle.game.specs.declared.Player.{Player}
 use Rattle.game.specs.declared.Player.TheVariants.{Even, Odd}
 use Rattle.game.specs.declared.NoPlayer.{NoPlayer}
+use Rattle.game.specs.Game.{parity}
 
--- The byte of a player, in sheets and in plans.
+-- The byte of a player, in sheets and in plans: the parity of the priorities that it wins by.
 abbrev pub byte_of : Player → ℕ
-byte_of Even = 0
-byte_of Odd = 1
+byte_of = parity
 
 -- The result is the player with this byte, or an error with a byte that is neither player's.
 abbrev pub Decodes : ℕ → Result Player NoPlayer → Type 0

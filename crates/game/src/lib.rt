@@ -4,7 +4,7 @@
 ghost use Rattle.std.specs.Prelude.{◌≡◌, Some};
 ghost use Rattle.game.specs.Game.{rival};
 ghost use Rattle.game.specs.Loops.{LoneLoopsDecided};
-ghost use Rattle.game.specs.Players.{Decodes, word_of};
+ghost use Rattle.game.specs.Players.{byte_of, Decodes, word_of};
 
 use std::fmt;
 
@@ -45,6 +45,17 @@ impl TryFrom<u8> for Player {
     }
 }
 
+impl From<Player> for u8 {
+    ghost from_gives = { λ player byte. byte ≡ byte_of player };
+
+    fn from(player: Player) -> u8 {
+        match player {
+            Player::Even => 0,
+            Player::Odd => 1,
+        }
+    }
+}
+
 impl fmt::Display for Player {
     ghost output = { λ player. Some (word_of player) };
 
@@ -56,7 +67,7 @@ impl fmt::Display for Player {
     }
 }
 
-// A move that a position offers: where it leads, and its priority.
+// A move that a position offers: where it leads, and its priority. The default fills the unused places of lists of fixed capacity.
 #[derive(Clone, Copy, PartialEq, Eq, Debug, Default)]
 pub struct Arc {
     pub target: usize,

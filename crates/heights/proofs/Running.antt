@@ -1,8 +1,9 @@
 -- The run of sweeps, while it is under way.
-use Rattle.std.proofs.Common.{◌≡◌, ℕ, ◌+◌, ◌-◌, ◌*◌, ◌^◌, ◌<◌, ◌≤◌, List, length, set, sym, refl, ap, ◌∙◌, inl, inr, add-zero, add_assoc, add-one, arith}
+use Rattle.std.proofs.Common.{◌≡◌, ℕ, ◌+◌, ◌-◌, ◌*◌, ◌^◌, ◌<◌, ◌≤◌, Bool, true, false, ltb, cond, Option, Some, None, IfSome, unwrap_or, List, length, set, sym, refl, ap, ◌∙◌, inl, inr, add-zero, add_assoc, add-one, arith}
 use Rattle.std.proofs.lemmas.Nat.{mul-le}
+use Rattle.std.proofs.lemmas.Option.{none-some, same_Some}
 use Rattle.std.proofs.lemmas.List.{get_or-set_same, get_or-set_other}
-use Rattle.std.proofs.lemmas.Bool.{cases_eq}
+use Rattle.std.proofs.lemmas.Bool.{cases_eq, cases_lt, both_ways, cond-true, cond-false, lt-ltb, le-ltb}
 use Rattle.std.proofs.lemmas.Bool.Decides.{nat_tests}
 use Rattle.game.specs.Game.{Game, Lawful}
 use Rattle.toolkit.specs.Finite.{sum}
@@ -30,8 +31,31 @@ module _ (n r : ℕ) (g : Game) where
     unfolding low raised_at swept_to raises_to
     sweep_passes h = rw (add-one v) (grind (arith, nat_tests, bit_of_false))
 
+    -- by a lift, which says whether the position was low
+    pub sweep_lifts : {b : Bool} {next : List ℕ} → b ≡ ltb (height_in cells v) wanted → next ≡ cond (ltb (height_in cells v) wanted) (set cells v wanted) cells →
+        (next ≡ swept_to n r g (v + 1) before) × (b ≡ true → raises + 1 ≡ raises_to n r g (v + 1) before) × (b ≡ false → raises ≡ raises_to n r g (v + 1) before)
+    sweep_lifts {b} {next} b_is next_is = elim (cases_lt (height_in cells v) wanted) [
+      | inl less ↦
+          let low = lt-ltb (height_in cells v) wanted less in
+          let step = sweep_raises less in
+          (next_is ∙ cond-true (ltb (height_in cells v) wanted) (set cells v wanted) cells low ∙ step.0, λ yes. step.1, λ no. absurd (both_ways b no (b_is ∙ low)))
+      | inr more ↦
+          let high = le-ltb (height_in cells v) wanted more in
+          let step = sweep_passes more in
+          (next_is ∙ cond-false (ltb (height_in cells v) wanted) (set cells v wanted) cells high ∙ step.0, λ yes. absurd (both_ways b (b_is ∙ high) yes), λ no. step.1)
+    ]
+
   pub raises_low : (v raises : ℕ) (before : List ℕ) → raises ≡ raises_to n r g v before → raises ≤ v
   raises_low v raises before e = omega (arith, raises_at_most n r g v before)
+
+-- what a sweep tells of its raises
+pub some_raises : (o : Option ℕ) (x y : ℕ) → o ≡ Some x → unwrap_or o 0 ≡ y → IfSome o (λ raises. 1 ≤ raises) → (x ≡ y) × (1 ≤ x)
+some_raises None x y is told some = absurd (none-some x is)
+some_raises (Some z) x y is told some = let same : z ≡ x = same_Some z x is in (sym same ∙ told, rw (← same) some)
+
+pub no_raises : (o : Option ℕ) (y : ℕ) → o ≡ None → unwrap_or o 0 ≡ y → y ≡ 0
+no_raises None y is told = sym told
+no_raises (Some z) y is told = absurd (none-some z (sym is))
 
 -- a raise to at most T leaves no height above T
 pub raise_bounded : (size top v wanted : ℕ) (cells : List ℕ) → Under size (λ u. top) cells → v < length cells → wanted ≤ top → Under size (λ u. top) (set cells v wanted)

@@ -10,7 +10,8 @@ pub fn clear(cells: &mut [u32], used: usize)
     cells[..used].fill(0);
 }
 
-// A guard over lent cells: dropped, it clears the first `used` of them.
+// A guard over lent cells: dropped, it clears the first `used` of them. A slice of just these would be no
+// plainer: its callers promise something of the cells behind, and would have to join the two again.
 pub struct Cleared<'a> {
     pub cells: &'a mut [u32],
     pub used: usize,

@@ -1,6 +1,6 @@
 // The powers of n, computed once, and the climb by them.
 ghost use Rattle.std.specs.Prelude.{◌≡◌, ℕ, ◌+◌, ◌*◌, ◌^◌, ◌<◌, ◌≤◌, [], slice_index};
-ghost use Rattle.heights.specs.Climb.{lost, climb};
+ghost use Rattle.heights.specs.Climb.{lost, step_of, climb};
 ghost use Rattle.heights.specs.Heights.{due_for};
 
 use game::Player;
@@ -42,6 +42,14 @@ impl Scale {
         self.limit
     }
 
+    // The step of priority p.
+    fn step(&self, p: u8) -> u32
+        requires { p ≤ 2 * self.now.r + 1 }
+        ensures { result ≡ step_of self.now.n p }
+    {
+        self.steps[usize::from(p) / 2]
+    }
+
     // The climb from height x by priority p.
     pub fn climb(&self, x: u32, p: u8) -> u32
         requires { p ≤ 2 * self.now.r + 1 }
@@ -50,7 +58,7 @@ impl Scale {
         if x >= self.limit {
             return self.limit;
         }
-        let step = self.steps[usize::from(p) / 2];
+        let step = self.step(p);
         let floor = x - x % step;
         if p % 2 == 0 { floor } else { floor + step }
     }

@@ -1,7 +1,7 @@
 -- What serves the call, and from the least heights over the layer to what is kept.
-use Rattle.std.proofs.Common.{◌≡◌, ℕ, ◌+◌, ◌*◌, ◌<◌, ◌≤◌, true, false, cond, ltb, ◌⊎◌, ◌↔◌, List, length, get_or, Some, None, sym, ap, ◌∙◌, subst, inl, inr, zero-mul, arith}
+use Rattle.std.proofs.Common.{◌≡◌, ℕ, ◌+◌, ◌*◌, ◌<◌, ◌≤◌, true, false, cond, leb, ltb, ◌&&◌, ◌↔◌, List, length, get_or, Some, None, sym, ap, ◌∙◌, subst, inl, inr, zero-mul, arith}
 use Rattle.std.proofs.lemmas.Nat.{mul-add-lt}
-use Rattle.std.proofs.lemmas.Bool.{cases_lt, cases_Bool, cond-true, cond-false, ltb-true, lt-ltb}
+use Rattle.std.proofs.lemmas.Bool.{cases_lt, cases_Bool, and_from, le-leb, cond-true, cond-false, ltb-true, lt-ltb}
 use Rattle.std.proofs.lemmas.Option.{cond_some}
 use Rattle.game.specs.Game.{Game}
 use Rattle.heights.specs.Climb.{lost}
@@ -45,11 +45,12 @@ module _ (r : ℕ) (g : Game) where
       let m = mul-add-lt v (row_count r g) 0 (g.size + arc_total g) (omega arith) some in
       subst (λ (l : Game). v * row_count r g < l.size) (sym (where_it_stands e)) (omega arith)
 
-  pub not_served : (cells : List ℕ) → ((registers r g).size ≡ 0) ⊎ (length cells < (registers r g).size) → Served r g cells → ⊥
-  not_served cells (inl none) served =
+  pub not_served : (cells : List ℕ) (used : ℕ) → used ≡ (registers r g).size → false ≡ leb 1 used && leb used (length cells) → Served r g cells → ⊥
+  not_served cells used e refused served =
       let there = zeros_in served.layer_stands 0 served.some_position in
-      omega arith
-  not_served cells (inr few) served = let enough = served.enough_cells in omega arith
+      let enough = served.enough_cells in
+      let yes = and_from (leb 1 used) (leb used (length cells)) (le-leb 1 used (omega arith)) (le-leb used (length cells) (omega arith)) in
+      cc
 
   -- how many rows the call for their number tells, by the arena's top
   pub rows_told : (rows top : ℕ) → top ≡ g.top → Some rows ≡ cond (in_range r top) (Some (choose (top + r) r)) None → Some rows ≡ cond (in_range r g.top) (Some (choose (g.top + r) r)) None

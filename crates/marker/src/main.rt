@@ -23,6 +23,7 @@ fn main(rt: HostRuntime) -> anyhow::Result<()> {
     Ok(())
 }
 
+// The line is written into a lent buffer, as the rules have it, so its length stands beside.
 fn refuse(rt: &HostRuntime, fault: &SheetFault) -> io::Result<()> {
     let mut line = [0u8; 64];
     let count = refusal_line(fault, &mut line).unwrap();

@@ -6,7 +6,7 @@ use plans::{FormedPlan, Mark, judge};
 use table::Table;
 use text::Fault;
 
-// How a plan is judged: the number and place of the refusal, or the mark.
+// How a plan is judged: the number and place of the refusal, or the mark; one flat value, so that the table below can be read.
 #[derive(Clone, Copy, PartialEq, Eq, Debug)]
 enum Outcome {
     Outside,
@@ -27,14 +27,9 @@ fn judging(table: &Table, bytes: &[u8]) -> Outcome {
 }
 
 // Where a well-formed plan leaves, and where it loses.
-fn places(table: &Table, bytes: &[u8]) -> (Option<usize>, Option<usize>) {
-    if table.size() > 16 {
-        return (None, None);
-    }
-    match FormedPlan::read(table, bytes) {
-        Ok(plan) => (plan.leaves_at(), plan.loses_at()),
-        Err(_) => (None, None),
-    }
+fn places(table: &Table, bytes: &[u8]) -> Option<(Option<usize>, Option<usize>)> {
+    let plan = FormedPlan::read(table, bytes).ok()?;
+    Some((plan.leaves_at(), plan.loses_at()))
 }
 
 #[cfg(test)]
@@ -108,7 +103,7 @@ mod tests {
         let mut table = Table::new(rt.alloc());
         assert!(rt; read_sheet(&mut table, rt.alloc(), &TWO_LOOPS).is_ok());
         let both = [0, 3, 0, 254, 255];
-        assert_eq!(rt; places(&table, &both), (Some(1), Some(0)));
+        assert_eq!(rt; places(&table, &both), Some((Some(1), Some(0))));
         assert_eq!(rt; judging(&table, &both), Outcome::Leaves(1));
         assert_eq!(rt; judging(&table, &[0, 3, 0, 254, 0]), Outcome::Loses(0));
         assert_eq!(rt; judging(&table, &[0, 3, 255, 254, 0]), Outcome::Passes);
@@ -122,6 +117,7 @@ mod tests {
         sheet[1] = 16;
         sheet[2] = 0;
         sheet[3] = 0;
+        // by index: the offsets are those of the format
         for v in 0..16usize {
             sheet[4 + 6 * v] = (v % 2) as u8;
             sheet[5 + 6 * v] = 0;

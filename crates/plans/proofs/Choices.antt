@@ -1,15 +1,15 @@
 -- What the choice at a position says of the arcs that the plan's moves may take.
 use Rattle.game.specs.declared.Arc as arc
-use Rattle.std.proofs.Common.{◌≡◌, ℕ, ◌<◌, Bool, true, false, eqb, ltb, List, [], length, get_or, MatchBool, sym, refl, ap, ◌∙◌, subst, inl, inr, zero-add, arith}
+use Rattle.std.proofs.Common.{◌≡◌, ℕ, ◌<◌, Bool, true, false, eqb, ltb, List, [], length, get_or, MatchBool, sym, refl, ap, ◌∙◌, subst, inl, inr, zero-add, arith, ◌%◌, not, Option, None}
 use Rattle.std.specs.List.{enumerate_from, HoldsAt, AllWithin}
-use Rattle.std.proofs.lemmas.Bool.{cases_Bool, cond-true, lt-ltb, eqb-true, eqb-false}
+use Rattle.std.proofs.lemmas.Bool.{cases_Bool, cond-true, lt-ltb, eqb-true, eqb-false, eq-eqb, both_ways, not-true, not-false}
 use Rattle.std.proofs.lemmas.Bool.Decides.{nat_tests}
 use Rattle.std.proofs.lemmas.List.FromFn.{length-enumerate_from, get_or-enumerate_from}
 use Rattle.std.proofs.lemmas.Option.{slice_get_within, slice_get-get_or, get_or_from_slice_get}
 use Rattle.game.specs.declared.Player.{Player}
 use Rattle.game.specs.declared.Player.TheVariants.{Even, Odd}
 use Rattle.game.specs.Players.{byte_of}
-use Rattle.game.specs.Game.{Game, Lawful}
+use Rattle.game.specs.Game.{Game, Lawful, parity, rival}
 use Rattle.game.specs.Plans.{Plan}
 use Rattle.game.proofs.Arcs.{arc_there, arc_from}
 use Rattle.arena.specs.Arcs.{arcs_from}
@@ -17,8 +17,10 @@ use Rattle.plans.specs.declared.choice.Choice.{Choice}
 use Rattle.plans.specs.declared.choice.Choice.TheVariants.{Unclaimed, Claimed, Arc}
 use Rattle.plans.specs.Bytes.{byte, choice_byte, plan_of, player_of, WellFormed}
 use Rattle.plans.specs.Choices.{choice_of, allows}
-use Rattle.plans.specs.Findings.{Tells, TellsSomeMove}
+use Rattle.plans.specs.Findings.{Tells, TellsSomeMove, ClosedWalkAt, LosingWalkAt}
 use Rattle.plans.proofs.Following.{MayTake, own_or_rivals, follows_by, taken_by}
+use Rattle.plans.specs.Marks.{Found}
+use Rattle.plans.proofs.Lows.{losing_from_closed, none_loses}
 
 claimed_byte : (b : ℕ) → Claimed ≡ choice_of b → b ≡ 254
 claimed_byte b is = grind (arith, nat_tests)
@@ -128,3 +130,11 @@ module _ (g : Game) (bytes : List ℕ) (laws : Lawful g) (formed : WellFormed g 
   moves_from_any r answer =
       let all : arcs_from g v 0 ≡ g.arcs v = cond-true (ltb v g.size) (g.arcs v) [] (lt-ltb v g.size there) in
       told r (subst (Answer r) all answer)
+
+-- the closed walks by a priority lose exactly where it has the parity of the rival of the player whom the bytes name
+module _ (g : Game) (bytes : List ℕ) (player : Player) (q : ℕ) (wrong : Bool) (owner : byte_of player ≡ byte bytes 0) (says : wrong ≡ eqb (q % 2) (parity (rival player))) where
+  pub loses_by : not wrong ≡ false → (o : Option ℕ) → Found (ClosedWalkAt g (plan_of g.size bytes) q) o → Found (LosingWalkAt g (plan_of g.size bytes) q) o
+  loses_by is = λ o. losing_from_closed g (plan_of g.size bytes) q o (eqb-true (q % 2) (parity (rival player)) (sym says ∙ not-false wrong is) ∙ ap (λ p. parity (rival p)) (owner_is player bytes owner))
+
+  pub loses_by_none : not wrong ≡ true → Found (LosingWalkAt g (plan_of g.size bytes) q) None
+  loses_by_none is = none_loses g (plan_of g.size bytes) q (λ e. both_ways wrong (not-true wrong is) (says ∙ eq-eqb (q % 2) (parity (rival player)) (e ∙ ap (λ p. parity (rival p)) (sym (owner_is player bytes owner)))))

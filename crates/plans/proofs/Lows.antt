@@ -1,15 +1,14 @@
 -- The lowest position with a property.
-use Rattle.std.proofs.Common.{◌≡◌, ℕ, zero, suc, ◌+◌, ◌%◌, ◌<◌, ◌≤◌, min, Bool, true, eqb, ◌⊎◌, List, [], ◌∷◌, fold, filter, Some, None, Option, sym, refl, ap, ◌∙◌, subst, inl, inr, arith}
+use Rattle.std.proofs.Common.{◌≡◌, ℕ, zero, suc, ◌+◌, ◌%◌, ◌<◌, ◌≤◌, min, ◌⊎◌, List, [], ◌∷◌, fold, Some, None, Option, sym, refl, ap, ◌∙◌, subst, inl, inr, arith}
 use Rattle.std.proofs.lemmas.Option.{none-some, same_Some}
 use Rattle.std.specs.List.{filter_map, cons_option, reduce, range_with_len}
-use Rattle.std.proofs.lemmas.Bool.{cases_Bool, cases_eq, cases_lt, cases_order, both_ways, cond-true, cond-false, eqb-true, eq-eqb}
-use Rattle.game.specs.declared.Player.{Player}
+use Rattle.std.proofs.lemmas.Bool.{cases_eq, cases_lt, cases_order}
 use Rattle.game.specs.Game.{Game, Lawful, parity, rival}
 use Rattle.game.specs.Plans.{Plan, highest}
 use Rattle.toolkit.proofs.Search.{seek_least}
 use Rattle.toolkit.proofs.Walks.{highest_at_most}
 use Rattle.plans.specs.Marks.{Lowest, Found, OnLosingWalk}
-use Rattle.plans.specs.Findings.{ClosedWalkAt}
+use Rattle.plans.specs.Findings.{ClosedWalkAt, LosingWalkAt}
 use Rattle.plans.proofs.Following.{move_low}
 
 pub one_lowest : {P : ℕ → Type 0} {a b : ℕ} → Lowest P a → Lowest P b → a ≡ b
@@ -69,20 +68,6 @@ among_range : (a n q : ℕ) → a ≤ q → q < a + n → Among (range_with_len 
 among_range a zero q low high = absurd (omega arith)
 among_range a (suc n) q low high = elim (cases_eq q a) [ inl e ↦ inl e | inr apart ↦ inr (among_range (a + 1) n q (omega arith) (omega arith)) ]
 
-among_filter : (test : ℕ → Bool) (xs : List ℕ) (q : ℕ) → Among xs q → test q ≡ true → Among (filter test xs) q
-among_filter test [] q none passes = none
-among_filter test (x ∷ xs) q among passes = elim (cases_Bool (test x)) [
-  | inl e ↦ subst (λ ys. Among ys q) (sym (cond-true (test x) (x ∷ filter test xs) (filter test xs) e)) (elim among [ inl here ↦ inl here | inr later ↦ inr (among_filter test xs q later passes) ])
-  | inr e ↦ subst (λ ys. Among ys q) (sym (cond-false (test x) (x ∷ filter test xs) (filter test xs) e)) (elim among [ inl here ↦ absurd (both_ways (test x) e (rw here at passes)) | inr later ↦ among_filter test xs q later passes ])
-]
-
-from_filter : (test : ℕ → Bool) (xs : List ℕ) (q : ℕ) → Among (filter test xs) q → test q ≡ true
-from_filter test [] q none = absurd none
-from_filter test (x ∷ xs) q among = elim (cases_Bool (test x)) [
-  | inl e ↦ elim (subst (λ ys. Among ys q) (cond-true (test x) (x ∷ filter test xs) (filter test xs) e) among) [ inl here ↦ rw here e | inr later ↦ from_filter test xs q later ]
-  | inr e ↦ from_filter test xs q (subst (λ ys. Among ys q) (cond-false (test x) (x ∷ filter test xs) (filter test xs) e) among)
-]
-
 module _ (h : ℕ → Option ℕ) where
   among_mapped : (xs : List ℕ) (q v : ℕ) → Among xs q → h q ≡ Some v → Among (filter_map h xs) v
   among_mapped [] q v none e = none
@@ -103,45 +88,45 @@ module _ (h : ℕ → Option ℕ) where
         | inr rest ↦ let (q, among, is) = later rest in (q, inr among, is)
       ]
 
--- A priority has the parity of the player's rival.
-abbrev pub is_wrong : Player → ℕ → Bool
-is_wrong player q = eqb (q % 2) (parity (rival player))
+-- The least of the positions that h gives for the priorities up to top.
+abbrev pub losing : ℕ → (ℕ → Option ℕ) → Option ℕ
+losing top h = reduce min (filter_map h (range_with_len 0 (top + 1)))
 
--- The least of the positions that h gives for the wrong priorities.
-abbrev pub losing : ℕ → Player → (ℕ → Option ℕ) → Option ℕ
-losing top player h = reduce min (filter_map h (filter (is_wrong player) (range_with_len 0 (top + 1))))
+-- Where h gives each priority's lowest position on a losing walk with that highest priority, it is the lowest position of all losing walks.
+module _ (g : Game) (s : Plan) (laws : Lawful g) (h : ℕ → Option ℕ) (exact : (q : ℕ) → Found (LosingWalkAt g s q) (h q)) where
+  abbrev candidates : List ℕ
+  candidates = filter_map h (range_with_len 0 (g.top + 1))
 
--- Where h gives each priority's lowest position on a closed walk with that highest priority, it is the lowest position of a losing walk.
-module _ (g : Game) (s : Plan) (laws : Lawful g) (h : ℕ → Option ℕ) (exact : (q : ℕ) → Found (ClosedWalkAt g s q) (h q)) where
-  losing_here : (q v : ℕ) → is_wrong s.player q ≡ true → ClosedWalkAt g s q v → OnLosingWalk g s v
-  losing_here q v wrong closed = record { first = closed.first; rest = closed.rest; walk = closed.walk; wrong = ap (λ p. p % 2) closed.is_highest ∙ eqb-true (q % 2) (parity (rival s.player)) wrong }
+  losing_here : (q v : ℕ) → LosingWalkAt g s q v → OnLosingWalk g s v
+  losing_here q v l = let closed = l.closed in record { first = closed.first; rest = closed.rest; walk = closed.walk; wrong = ap (λ p. p % 2) closed.is_highest ∙ l.wrong }
 
-  -- a losing walk has its lowest position among the least of the wrong priorities
-  found_not_above : (v : ℕ) → OnLosingWalk g s v → (p : ℕ) × (p ≤ v) × Among (filter_map h (filter (is_wrong s.player) (range_with_len 0 (g.top + 1)))) p
+  -- a losing walk has its lowest position among the candidates
+  found_not_above : (v : ℕ) → OnLosingWalk g s v → (p : ℕ) × (p ≤ v) × Among candidates p
   found_not_above v l =
       let q = highest (l.first ∷ l.rest) in
       let low = highest_at_most g.top (λ a b p m. move_low g s laws m) l.walk in
-      let closed : ClosedWalkAt g s q v = record { first = l.first; rest = l.rest; walk = l.walk; is_highest = refl } in
-      let among = among_filter (is_wrong s.player) (range_with_len 0 (g.top + 1)) q (among_range 0 (g.top + 1) q (omega arith) (omega arith)) (eq-eqb (q % 2) (parity (rival s.player)) l.wrong) in
-      at q closed among (h q) refl (exact q)
+      let losing_walk : LosingWalkAt g s q v = record { wrong = l.wrong; closed = record { first = l.first; rest = l.rest; walk = l.walk; is_highest = refl } } in
+      at q losing_walk (among_range 0 (g.top + 1) q (omega arith) (omega arith)) (h q) refl (exact q)
     where
-      at : (q : ℕ) → ClosedWalkAt g s q v → Among (filter (is_wrong s.player) (range_with_len 0 (g.top + 1))) q → (o : Option ℕ) → h q ≡ o → Found (ClosedWalkAt g s q) o → (p : ℕ) × (p ≤ v) × Among (filter_map h (filter (is_wrong s.player) (range_with_len 0 (g.top + 1)))) p
-      at q closed among None e found = absurd (found v closed)
-      at q closed among (Some p) e found =
-          let low : p ≤ v = elim (cases_lt v p) [ inl less ↦ absurd (found.none_below v less closed) | inr more ↦ more ] in
-          (p, low, among_mapped h (filter (is_wrong s.player) (range_with_len 0 (g.top + 1))) q p among e)
+      at : (q : ℕ) → LosingWalkAt g s q v → Among (range_with_len 0 (g.top + 1)) q → (o : Option ℕ) → h q ≡ o → Found (LosingWalkAt g s q) o → (p : ℕ) × (p ≤ v) × Among candidates p
+      at q walk among None e found = absurd (found v walk)
+      at q walk among (Some p) e found =
+          let low : p ≤ v = elim (cases_lt v p) [ inl less ↦ absurd (found.none_below v less walk) | inr more ↦ more ] in
+          (p, low, among_mapped h (range_with_len 0 (g.top + 1)) q p among e)
 
-  pub losing_found : Found (OnLosingWalk g s) (losing g.top s.player h)
+  pub losing_found : Found (OnLosingWalk g s) (losing g.top h)
   losing_found = at (reduce min candidates) (least candidates)
     where
-      candidates : List ℕ
-      candidates = filter_map h (filter (is_wrong s.player) (range_with_len 0 (g.top + 1)))
-
       at : (o : Option ℕ) → Found (Among candidates) o → Found (OnLosingWalk g s) o
       at None found = λ v l. let (p, _, among) = found_not_above v l in found p among
       at (Some m) found = record {
-        here =
-            let (q, among, e) = from_mapped h (filter (is_wrong s.player) (range_with_len 0 (g.top + 1))) m found.here in
-            losing_here q m (from_filter (is_wrong s.player) (range_with_len 0 (g.top + 1)) q among) (subst (Found (ClosedWalkAt g s q)) e (exact q)).here;
+        here = let (q, among, e) = from_mapped h (range_with_len 0 (g.top + 1)) m found.here in losing_here q m (subst (Found (LosingWalkAt g s q)) e (exact q)).here;
         none_below = λ v less l. let (p, low, among) = found_not_above v l in found.none_below p (omega arith) among;
       }
+
+-- from a priority's lowest position on a closed walk, that on a losing one
+pub losing_from_closed : (g : Game) (s : Plan) (q : ℕ) (o : Option ℕ) → q % 2 ≡ parity (rival s.player) → Found (ClosedWalkAt g s q) o → Found (LosingWalkAt g s q) o
+losing_from_closed g s q o wrong found = found_alike (λ v closed. record { wrong = wrong; closed = closed }) (λ v (l : LosingWalkAt g s q v). l.closed) o found
+
+pub none_loses : (g : Game) (s : Plan) (q : ℕ) → (q % 2 ≡ parity (rival s.player) → ⊥) → Found (LosingWalkAt g s q) None
+none_loses g s q right = λ v l. right l.wrong

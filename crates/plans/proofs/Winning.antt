@@ -16,11 +16,11 @@ use Rattle.plans.specs.Bytes.{choice_byte, plan_of, WellFormed}
 use Rattle.plans.specs.Judging.{FormedAndMarked, Judges, WinningBytes}
 use Rattle.plans.specs.Refusals.{Refuses}
 use Rattle.plans.specs.Marks.{StepsOut, OnLosingWalk, Found, Marks}
-use Rattle.plans.specs.Findings.{MovesBetween, ClosedWalkAt}
+use Rattle.plans.specs.Findings.{MovesBetween, ClosedWalkAt, LosingWalkAt}
 use Rattle.plans.specs.Theorems.{MarksComplete}
 use Rattle.plans.proofs.Following.{some_move_or_none, move_from_inside, move_to_inside, walk_from_inside}
 use Rattle.plans.proofs.Circles.{Circle, circle_from_walk, walk_from_circle}
-use Rattle.plans.proofs.Lows.{one_lowest, lowest_or_none, losing_found}
+use Rattle.plans.proofs.Lows.{one_lowest, lowest_or_none, losing_found, losing_from_closed, none_loses}
 use Rattle.plans.proofs.Complete.{not_both}
 
 -- the other parity is the rival's
@@ -109,8 +109,15 @@ module _ (g : Game) (s : Plan) where
     pub closed_found : (q : ℕ) → (o : Option ℕ) × Found (ClosedWalkAt g s q) o
     closed_found q = lowest_or_none g.size (λ v h. closed_or_not q v) (λ v (closed : ClosedWalkAt g s q v). walk_from_inside g s closed.walk)
 
+    -- the same where the priority has the wrong parity
+    pub losing_at : (q : ℕ) → (o : Option ℕ) × Found (LosingWalkAt g s q) o
+    losing_at q = elim (cases_eq (q % 2) (parity (rival s.player))) [
+      | inl wrong ↦ ((closed_found q).0, losing_from_closed g s q (closed_found q).0 wrong (closed_found q).1)
+      | inr right ↦ (None, none_loses g s q right)
+    ]
+
     losing_or_none : (o : Option ℕ) × Found (OnLosingWalk g s) o
-    losing_or_none = (_, losing_found g s laws (λ q. (closed_found q).0) (λ q. (closed_found q).1))
+    losing_or_none = (_, losing_found g s laws (λ q. (losing_at q).0) (λ q. (losing_at q).1))
 
     leaving_found : (o : Option ℕ) × Found (StepsOut g s) o
     leaving_found = lowest_or_none g.size (λ v h. steps_out_or_not v) (λ v (out : StepsOut g s v). move_from_inside g s out.move)

@@ -1,7 +1,7 @@
 -- What the steps of judging find.
-use Rattle.std.specs.Prelude.{◌≡◌, ℕ, ◌<◌, ◌≤◌, Bool, true, false, List, ◌∷◌, Decides, MatchBool}
+use Rattle.std.specs.Prelude.{◌≡◌, ℕ, ◌%◌, ◌<◌, ◌≤◌, Bool, true, false, List, ◌∷◌, Decides, MatchBool}
 use Rattle.game.specs.declared.Arc.{Arc}
-use Rattle.game.specs.Game.{Game}
+use Rattle.game.specs.Game.{Game, parity, rival}
 use Rattle.game.specs.Plans.{Plan, Follows, Walk, highest}
 use Rattle.plans.specs.declared.relation.Relation.{Relation}
 use Rattle.plans.specs.Relations.{related}
@@ -31,3 +31,8 @@ pub record ClosedWalkAt (g : Game) (s : Plan) (q v : ℕ) : Type 0 where
   pub rest : List ℕ
   pub walk : Walk (Follows g s) v v (first ∷ rest)
   pub is_highest : highest (first ∷ rest) ≡ q
+
+-- The same, where q has the parity of the player's rival.
+pub record LosingWalkAt (g : Game) (s : Plan) (q v : ℕ) : Type 0 where
+  pub wrong : q % 2 ≡ parity (rival s.player)
+  pub closed : ClosedWalkAt g s q v

@@ -3,7 +3,7 @@ ghost use Rattle.std.specs.Prelude.{◌≡◌};
 ghost use Rattle.plans.specs.Choices.{choice_of, allows};
 
 #[derive(Clone, Copy, PartialEq, Eq, Debug)]
-pub enum Choice {
+pub(crate) enum Choice {
     // the plan does not claim the position
     Unclaimed,
     // claimed, where the other player moves, by any arc
@@ -14,7 +14,7 @@ pub enum Choice {
 
 impl Choice {
     // Whether the plan's moves from the position may be by arc i.
-    pub fn allows(self, i: usize) -> bool
+    pub(crate) fn allows(self, i: usize) -> bool
         ensures { result ≡ allows self i }
     {
         match self {

@@ -19,10 +19,11 @@ pub enum PlanFault {
     Choice(usize),
 }
 
+// by hand: clauses name the fault that `?` makes
 impl From<NoPlayer> for PlanFault {
     ghost from_gives = { λ _ fault. fault ≡ Owner };
 
-    fn from(_byte: NoPlayer) -> PlanFault {
+    fn from(_: NoPlayer) -> PlanFault {
         PlanFault::Owner
     }
 }

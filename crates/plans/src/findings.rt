@@ -2,9 +2,10 @@
 ghost use Rattle.std.specs.Prelude.{◌≡◌, ◌%◌, ◌≤◌, ◌==◌};
 ghost use Rattle.game.specs.Game.{parity, rival};
 ghost use Rattle.plans.specs.Bytes.{plan_of};
-ghost use Rattle.plans.specs.Findings.{ClosedWalkAt};
+ghost use Rattle.plans.specs.Findings.{ClosedWalkAt, LosingWalkAt};
 ghost use Rattle.plans.specs.Marks.{Found, StepsOut, OnLosingWalk};
 
+use super::moves::Priorities;
 use super::plan::FormedPlan;
 use arena::Arena;
 use game::Player;
@@ -13,13 +14,10 @@ use game::Player;
 fn wrong(player: Player, priority: u8) -> bool
     ensures { result ≡ (priority % 2 == parity (rival player)) }
 {
-    let own_parity = match player {
-        Player::Even => 0,
-        Player::Odd => 1,
-    };
-    priority % 2 != own_parity
+    priority % 2 != u8::from(player)
 }
 
+// That the arena has at most 16 positions is asked by the contracts from here to `judge` and is no field of the plan: a plan is read on an arena of any size.
 impl<A: Arena> FormedPlan<'_, A> {
     // The lowest claimed position from which a following move ends unclaimed.
     pub fn leaves_at(&self) -> Option<usize>
@@ -33,9 +31,29 @@ impl<A: Arena> FormedPlan<'_, A> {
         requires few { (A.game self.now.arena.now).size ≤ 16 }
         ensures { let g = A.game self.now.arena.now in Found (ClosedWalkAt g (plan_of g.size self.now.bytes.now) priority) result }
     {
-        let reach = self.moves_between(0, priority).closed();
-        let peaks = self.moves_between(priority, priority);
+        let reach = self
+            .moves_between(Priorities {
+                low: 0,
+                high: priority,
+            })
+            .closed();
+        let peaks = self.moves_between(Priorities {
+            low: priority,
+            high: priority,
+        });
         reach.first_closed(&peaks, self.arena.size())
+    }
+
+    // The same, where the priority has the wrong parity; by any other no walk loses.
+    #[tactic(auto, using(crate::proofs::Choices::loses_by, crate::proofs::Choices::loses_by_none))]
+    fn losing_walk_at(&self, priority: u8) -> Option<usize>
+        requires few { (A.game self.now.arena.now).size ≤ 16 }
+        ensures { let g = A.game self.now.arena.now in Found (LosingWalkAt g (plan_of g.size self.now.bytes.now) priority) result }
+    {
+        if !wrong(self.player, priority) {
+            return None;
+        }
+        self.closed_walk_at(priority)
     }
 
     // The lowest position on a closed walk of following moves whose highest priority has the wrong parity.
@@ -44,8 +62,7 @@ impl<A: Arena> FormedPlan<'_, A> {
         ensures { let g = A.game self.now.arena.now in Found (OnLosingWalk g (plan_of g.size self.now.bytes.now)) result }
     {
         (0..=self.arena.top())
-            .filter(|q| wrong(self.player, *q))
-            .filter_map(|q| self.closed_walk_at(q))
+            .filter_map(|q| self.losing_walk_at(q))
             .min()
     }
 }

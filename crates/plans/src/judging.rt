@@ -13,7 +13,7 @@ use arena::Arena;
 
 impl<A: Arena> FormedPlan<'_, A> {
     // Its mark. Where the plan both leaves and loses, it leaves.
-    pub fn mark(&self) -> Mark
+    pub(crate) fn mark(&self) -> Mark
         requires few { (A.game self.now.arena.now).size ≤ 16 }
         ensures { let g = A.game self.now.arena.now in Marks g (plan_of g.size self.now.bytes.now) result }
     {

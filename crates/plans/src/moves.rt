@@ -9,13 +9,21 @@ use super::relation::Relation;
 use arena::{Arcs, Arena};
 use game::Arc;
 
-// Whether an arc leads to w with a priority from low to high.
-fn leads_to(arc: Arc, w: usize, low: u8, high: u8) -> bool
-    ensures { result ≡ (arc.target == w && (nat_le low arc.priority && nat_le arc.priority high)) }
-{
-    arc.target == w && (low..=high).contains(&arc.priority)
+// The priorities from low to high.
+#[derive(Clone, Copy)]
+pub(crate) struct Priorities {
+    pub(crate) low: u8,
+    pub(crate) high: u8,
 }
 
+// Whether an arc leads to w with one of the priorities.
+fn leads_to(arc: Arc, w: usize, by: Priorities) -> bool
+    ensures { result ≡ (arc.target == w && (nat_le by.low arc.priority && nat_le arc.priority by.high)) }
+{
+    arc.target == w && (by.low..=by.high).contains(&arc.priority)
+}
+
+// That a position is there is asked where it is not tested: positions are numbers, as the rules and the formats have them.
 impl<A: Arena> FormedPlan<'_, A> {
     // Whether some following move from position v is by an arc that passes the test.
     fn some_move<F: Fn(Arc) -> bool>(&self, v: usize, test: F) -> bool
@@ -44,16 +52,16 @@ impl<A: Arena> FormedPlan<'_, A> {
         self.some_move(v, |arc| self.leads_out(arc))
     }
 
-    // Whether a following move with a priority from low to high leads from u to w.
-    fn leads(&self, low: u8, high: u8, u: usize, w: usize) -> bool
-        ensures { let g = A.game self.now.arena.now in Tells result (MovesBetween g (plan_of g.size self.now.bytes.now) low high u w) }
+    // Whether a following move with one of the priorities leads from u to w.
+    fn leads(&self, by: Priorities, u: usize, w: usize) -> bool
+        ensures { let g = A.game self.now.arena.now in Tells result (MovesBetween g (plan_of g.size self.now.bytes.now) by.low by.high u w) }
     {
-        u < self.arena.size() && self.some_move(u, |arc| leads_to(arc, w, low, high))
+        u < self.arena.size() && self.some_move(u, |arc| leads_to(arc, w, by))
     }
 
-    pub(crate) fn moves_between(&self, low: u8, high: u8) -> Relation
-        ensures { let g = A.game self.now.arena.now in HasMoves g (plan_of g.size self.now.bytes.now) low high result }
+    pub(crate) fn moves_between(&self, by: Priorities) -> Relation
+        ensures { let g = A.game self.now.arena.now in HasMoves g (plan_of g.size self.now.bytes.now) by.low by.high result }
     {
-        Relation::of(|u, w| self.leads(low, high, u, w))
+        Relation::of(|u, w| self.leads(by, u, w))
     }
 }

@@ -1,6 +1,6 @@
 // Bytes that are a plan for an arena.
 ghost use Rattle.std.specs.Prelude.{◌≡◌, ◌+◌, ◌<◌, length, MatchResult};
-ghost use Rattle.game.specs.Players.{byte_of};
+ghost use Rattle.game.specs.Players.{byte_of, Decodes};
 ghost use Rattle.plans.specs.Bytes.{byte, choice_byte, plan_of, Headed, ChoiceFits, WellFormed};
 ghost use Rattle.plans.specs.Choices.{choice_of};
 ghost use Rattle.plans.specs.Findings.{Tells};
@@ -9,7 +9,7 @@ ghost use Rattle.plans.specs.Refusals.{Refuses};
 use super::choice::Choice;
 use super::fault::PlanFault;
 use arena::Arena;
-use game::Player;
+use game::{NoPlayer, Player};
 
 // A plan as its bytes give it, with the arena that it is for.
 #[derive(Drop)]
@@ -31,7 +31,7 @@ impl<'a, A: Arena> FormedPlan<'a, A> {
         if bytes.len() != size + 2 {
             return Err(PlanFault::Length);
         }
-        let player = Player::try_from(bytes[0])?;
+        let player = owner(bytes)?;
         if usize::from(bytes[1]) != size {
             return Err(PlanFault::Size);
         }
@@ -59,6 +59,14 @@ impl<'a, A: Arena> FormedPlan<'a, A> {
     {
         v < self.arena.size() && self.choice(v) != Choice::Unclaimed
     }
+}
+
+// Whose plan it is, by the first byte.
+fn owner(bytes: &[u8]) -> Result<Player, NoPlayer>
+    requires { 0 < length bytes.now }
+    ensures { Decodes (byte bytes.now 0) result }
+{
+    Player::try_from(bytes[0])
 }
 
 // Whether the byte of a position fits: the number of an arc where the plan's player moves, a mere claim where the other does.

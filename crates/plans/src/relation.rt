@@ -5,31 +5,38 @@ ghost use Rattle.plans.specs.Findings.{Tells};
 ghost use Rattle.plans.specs.Marks.{Found};
 ghost use Rattle.plans.specs.Relations.{related, GivenBy, closes, ClosesFrom, SomeCloses};
 
+use std::array;
+
 // One row for each position, with a cell for each that it may be related to.
 #[derive(Clone, Copy)]
-pub struct Relation {
-    pub rows: [[bool; 16]; 16],
+pub(crate) struct Relation {
+    pub(crate) rows: [[bool; 16]; 16],
 }
 
 impl Relation {
     // The relation that a test of two positions gives.
-    pub fn of<F: Fn(usize, usize) -> bool>(test: F) -> Relation
+    pub(crate) fn of<F: Fn(usize, usize) -> bool>(test: F) -> Relation
         requires { (u v : ℕ) → u < 16 → v < 16 → F.pre test u v }
         ensures { (u v : ℕ) → u < 16 → v < 16 → F.post test u v (related result u v) }
     {
-        // by loops: `array::from_fn` would ask a test that may be called at any two numbers
-        let mut rows = [[false; 16]; 16];
-        for u in 0..16 {
-            rows[u] = row(&test, u);
-        }
+        let rows = array::from_fn(
+            |u: usize|
+                requires { (v : ℕ) → v < 16 → F.pre test u v }
+                ensures { (v : ℕ) → v < 16 → F.post test u v (slice_index_or result v false) }
+            { row(&test, u) },
+        );
         Relation { rows }
     }
 
+    // Whether u is related to v; what is not below 16 is not.
     fn has(&self, u: usize, v: usize) -> bool
-        requires inside { (u < 16) × (v < 16) }
         ensures { result ≡ related self.now u v }
     {
-        self.rows[u][v]
+        self.rows
+            .get(u)
+            .and_then(|row| row.get(v))
+            .copied()
+            .unwrap_or(false)
     }
 
     // Each position related to itself besides.
@@ -40,7 +47,6 @@ impl Relation {
     }
 
     fn at_once_or(&self, k: usize, u: usize, v: usize) -> bool
-        requires inside { (k < 16) × (u < 16) × (v < 16) }
         ensures { result ≡ (related self.now u v || (related self.now u k && related self.now k v)) }
     {
         self.has(u, v) || (self.has(u, k) && self.has(k, v))
@@ -48,16 +54,16 @@ impl Relation {
 
     // One round: the ways by k besides.
     fn through(&self, k: usize) -> Relation
-        requires { k < 16 }
         ensures { GivenBy result (λ u v. related self.now u v || (related self.now u k && related self.now k v)) }
     {
         Relation::of(|u, v| self.at_once_or(k, u, v))
     }
 
     // What is reached by any number of steps.
-    pub fn closed(&self) -> Relation
+    pub(crate) fn closed(&self) -> Relation
         ensures { GivenBy result (reach 16 (related self.now)) }
     {
+        // a loop: its invariant says what the rounds so far have reached
         let mut reached = self.with_itself();
         for k in 0..16 {
             reached = reached.through(k);
@@ -65,9 +71,9 @@ impl Relation {
         reached
     }
 
+    // What is reached and the peaks go together from here on, and are no type of their own: two relations of one kind.
     // Whether the move from u to w, if it is a peak, closes a walk through v, where this relation says what is reached.
     fn closes(&self, peaks: &Relation, v: usize, u: usize, w: usize) -> bool
-        requires inside { (v < 16) × (u < 16) × (w < 16) }
         ensures { result ≡ closes self.now peaks.now v u w }
     {
         peaks.has(u, w) && self.has(v, u) && self.has(w, v)
@@ -75,7 +81,6 @@ impl Relation {
 
     // Whether some peak from u closes a walk through v.
     fn closes_from(&self, peaks: &Relation, v: usize, u: usize) -> bool
-        requires inside { (v < 16) × (u < 16) }
         ensures { Tells result (ClosesFrom self.now peaks.now v u) }
     {
         (0..16).any(|w| self.closes(peaks, v, u, w))
@@ -83,14 +88,13 @@ impl Relation {
 
     // Whether some peak from anywhere closes a walk through v.
     fn some_closes(&self, peaks: &Relation, v: usize) -> bool
-        requires { v < 16 }
         ensures { Tells result (SomeCloses self.now peaks.now v) }
     {
         (0..16).any(|u| self.closes_from(peaks, v, u))
     }
 
     // The lowest of the first n positions through which some peak closes a walk.
-    pub fn first_closed(&self, peaks: &Relation, n: usize) -> Option<usize>
+    pub(crate) fn first_closed(&self, peaks: &Relation, n: usize) -> Option<usize>
         requires { n ≤ 16 }
         ensures { Found (λ v. (v < n) × SomeCloses self.now peaks.now v) result }
     {
@@ -103,9 +107,10 @@ fn row<F: Fn(usize, usize) -> bool>(test: &F, u: usize) -> [bool; 16]
     requires { (v : ℕ) → v < 16 → F.pre test.now u v }
     ensures { (v : ℕ) → v < 16 → F.post test.now u v (slice_index_or result v false) }
 {
-    let mut row = [false; 16];
-    for v in 0..16 {
-        row[v] = test(u, v);
-    }
-    row
+    array::from_fn(
+        |v: usize|
+            requires { F.pre test.now u v }
+            ensures { F.post test.entry.now u v result }
+        { test(u, v) },
+    )
 }

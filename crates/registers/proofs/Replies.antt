@@ -2,9 +2,11 @@
 use Rattle.std.proofs.Common.{◌≡◌, ℕ, zero, suc, ◌+◌, ◌-◌, ◌*◌, ◌/◌, ◌%◌, ◌<◌, ◌≤◌, cond, ltb, leb, List, [], length, get_or, Some, None, Option, sym, refl, ap, ◌∙◌, inl, inr, arith}
 use Rattle.std.specs.Option.{option_map}
 use Rattle.std.specs.List.{slice_get}
+use Rattle.std.proofs.lemmas.List.{get_or_past}
 use Rattle.std.proofs.lemmas.Nat.{div_below, le-div, mod_below}
 use Rattle.std.proofs.lemmas.Option.{cond_some, none-some, slice_get_past}
 use Rattle.std.proofs.lemmas.Bool.{cases_lt, and_from, and_right, le-leb, lt-leb, cond-true, cond-false, lt-ltb, le-ltb, ltb-true}
+use Rattle.game.specs.declared.Player.{Player}
 use Rattle.game.specs.declared.Player.TheVariants.{Even}
 use Rattle.game.specs.declared.Arc.{Arc}
 use Rattle.game.specs.Game.{Game, mover_at, arc_count_at, arc_at}
@@ -84,6 +86,17 @@ module _ (s : Layer) where
   mover_is : (x : ℕ) → cond (ltb (x / count) size) (below.mover (x / count)) Even ≡ (layer_game s).mover x
   mover_is x = ap (λ n. cond (ltb (x / n) size) (below.mover (x / n)) Even) (sym rows_are)
 
+  even_behind : (v : ℕ) → below.mover v ≡ cond (ltb v size) (below.mover v) Even
+  even_behind v = elim (cases_lt v size) [
+    | inl h ↦ sym (cond-true (ltb v size) (below.mover v) Even (lt-ltb v size h))
+    | inr h ↦ ap (λ (p : Position). p.mover) (get_or_past positions v _ h) ∙ sym (cond-false (ltb v size) (below.mover v) Even (le-ltb v size h))
+  ]
+
+  pub mover_there : (x n : ℕ) (m : Player) → n ≡ count → m ≡ (position_in positions arcs (x / n)).mover → x < (layer_game s).size → Some m ≡ mover_at (layer_game s) x
+  mover_there x n m e f h =
+      ap Some (f ∙ ap (λ c. below.mover (x / c)) e ∙ even_behind (x / count) ∙ mover_is x) ∙
+      sym (cond-true (ltb x (layer_game s).size) (Some ((layer_game s).mover x)) None (lt-ltb x (layer_game s).size h))
+
   -- the layer's arcs at a place with row k
   arcs_is : (x at k : ℕ) → at ≡ x / count → k ≡ x % count → layer_arcs r below at (row k) ≡ (layer_game s).arcs x
   arcs_is x at k e f =
@@ -93,15 +106,6 @@ module _ (s : Layer) where
 
   -- at a position below
   module _ (x v k : ℕ) (h : v < size) (e : v ≡ x / count) where
-    pub mover_at_position : (xs : List Position) (d : Position) → xs ≡ positions → Some (get_or xs v d).mover ≡ mover_at (layer_game s) x
-    mover_at_position xs d is =
-        reply_there x (Some (get_or xs v d).mover) (Some ((layer_game s).mover x)) (omega arith)
-        (ap Some
-        (ap (λ (q : Position). q.mover) (position_found positions xs arcs v d is h) ∙
-        sym (cond-true (ltb v size) (below.mover v) Even (lt-ltb v size h)) ∙
-        ap (λ m. cond (ltb m size) (below.mover m) Even) e ∙
-        mover_is x))
-
     arcs_at_position : k ≡ x % count → updates r below (row k) (first_arc below v) (below.arcs v) ≡ (layer_game s).arcs x
     arcs_at_position f = sym (cond-true (ltb v size) _ _ (lt-ltb v size h)) ∙ arcs_is x v k e f
 
@@ -127,7 +131,7 @@ module _ (s : Layer) where
           let (l, same, _) = number_inside i n g in
           let a : Arc = get_or arcs n no_arc in
           let led : (t m : ℕ) → Arc = λ t m. record { target = (size + n) * m + place (updated a.priority (get_or (rows r t) k [])) (rows r t); priority = 0 } in
-          let number : first_arc below v + i ≡ n = ap (λ m. m + i) (first_is s.below.spans s.below.top v h) ∙ same in
+          let number : first_arc below v + i ≡ n = ap (λ m. m + i) (first_is s.below.spans s.below.top v (omega arith)) ∙ same in
           let found : slice_get (below.arcs v) i ≡ Some a = copied_arc s.below.spans s.below.top v i h l ∙ ap (λ m. Some (get_or arcs m no_arc)) same in
           reply_there x (Some (enter_arc s n k)) (slice_get ((layer_game s).arcs x) i) (omega arith)
           (ap (λ t. Some (led t count)) s.same ∙
@@ -153,11 +157,6 @@ module _ (s : Layer) where
   module _ (x n k : ℕ) (h : n < length arcs) (e : size + n ≡ x / count) where
     behind : size ≤ x / count
     behind = omega arith
-
-    pub mover_at_arc : Some Even ≡ mover_at (layer_game s) x
-    mover_at_arc =
-        reply_there x (Some Even) (Some ((layer_game s).mover x)) (omega arith)
-        (ap Some (sym (cond-false (ltb (x / count) size) (below.mover (x / count)) Even (le-ltb (x / count) size behind)) ∙ mover_is x))
 
     module _ (f : k ≡ x % count) where
       arcs_at_arc : choices r below (row k) (get_or arcs n no_arc) ≡ (layer_game s).arcs x

@@ -40,12 +40,11 @@ few_choices (suc (suc (suc (suc (suc zero))))) h = (omega arith, omega arith)
 few_choices (suc (suc (suc (suc (suc (suc r)))))) h = absurd (omega arith)
 
 -- there are 1 to 2002 rows
+pub few_ways : (r top : ℕ) → r ≤ 5 → top ≤ 9 → choose (top + r) r ≤ 2002
+few_ways r top h l = let grows = choose_grows (top + r) (9 + r) r (omega arith) in let few = few_choices r h in omega arith
+
 pub few_rows : (r top : ℕ) → r ≤ 5 → top ≤ 9 → length (rows r top) ≤ 2002
-few_rows r top h l =
-    let counted = rows_counted_lem r top in
-    let grows = choose_grows (top + r) (9 + r) r (omega arith) in
-    let few = few_choices r h in
-    omega arith
+few_rows r top h l = rw (rows_counted_lem r top) (few_ways r top h l)
 
 pub some_row : (r top : ℕ) → 1 ≤ length (rows r top)
 some_row r top =

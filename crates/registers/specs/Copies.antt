@@ -72,6 +72,9 @@ module _ {positions : List Position} {arcs : List Arc} (spans : Spans positions 
   first_under zero v e = let same : v ≡ length positions = omega arith in let h = ends in rw same (omega arith)
   first_under (suc d) v e = let l = spans.follows v (omega arith) in let h = first_under d (v + 1) (omega arith) in omega arith
 
+  pub first_inside : (v : ℕ) → v ≤ length positions → (position_in positions arcs v).first ≤ length arcs
+  first_inside v h = first_under (length positions - v) v (omega arith)
+
   pub last_inside : (v : ℕ) → v < length positions → (position_in positions arcs v).first + (position_in positions arcs v).count ≤ length arcs
   last_inside v h = let l = spans.follows v h in let m = first_under (length positions - (v + 1)) (v + 1) (omega arith) in omega arith
 
@@ -85,10 +88,8 @@ module _ {positions : List Position} {arcs : List Arc} (spans : Spans positions 
         ap (λ n. take (first n) arcs) (add-one v)
 
     -- the copy's arcs, numbered through, are the list
-    pub first_is : (v : ℕ) → v < length positions → first_arc (copied top positions arcs) v ≡ (position_in positions arcs v).first
-    first_is v h =
-        let l = last_inside v h in
-        ap length (arcs_taken v (omega arith)) ∙ length-take-le (first v) arcs (omega arith)
+    pub first_is : (v : ℕ) → v ≤ length positions → first_arc (copied top positions arcs) v ≡ (position_in positions arcs v).first
+    first_is v h = ap length (arcs_taken v h) ∙ length-take-le (first v) arcs (first_inside v h)
 
     pub all_arcs : arcs_below (copied top positions arcs) (length positions) ≡ arcs
     all_arcs = arcs_taken (length positions) (omega arith) ∙ ap (λ n. take n arcs) ends ∙ take_all (length arcs) arcs (omega arith)

@@ -6,10 +6,11 @@ ghost use Rattle.registers.specs.Views.{game_of, game_lawful, layer_game, layer_
 use super::copied::Copied;
 use super::moves::Moves;
 use super::registers::{Layer, Registers};
-use super::shape::Shape;
 use super::spot::Spot;
+use super::tables::step_count;
 use arena::Arena;
 use game::{Arc, Player};
+use rows::Shape;
 
 impl Registers {
     // The layer of r registers over an arena, which is asked now and not again.
@@ -45,7 +46,7 @@ impl Layer {
         self.below.positions.len() + self.below.arcs.len()
     }
 
-    // Where position x of the layer stands.
+    // Where position x of the layer stands: at place x / rows with row x % rows; the rules number the layer's positions so.
     fn spot(&self, x: usize) -> Option<Spot>
         ensures { StandsAt self.now x result }
     {
@@ -65,7 +66,7 @@ impl Layer {
         }
     }
 
-    // The arc from row k to arc e of the arena below, with the row updated.
+    // The arc from row k to arc e of the arena below, with the row updated. Rows go by number, as the layer's positions do.
     fn entering(&self, e: usize, k: usize) -> Arc
         requires arc { e < length self.now.below.arcs.items }
         requires row { k < length self.now.moves.by_row.items }
@@ -73,7 +74,7 @@ impl Layer {
     {
         let row = self.moves.updated(k, self.below.arcs[e].priority);
         Arc {
-            target: (self.below.positions.len() + e) * self.moves.by_row.len() + row as usize,
+            target: (self.below.positions.len() + e) * self.moves.by_row.len() + usize::from(row),
             priority: 0,
         }
     }
@@ -86,7 +87,7 @@ impl Layer {
     {
         let step = self.moves.step(k, j)?;
         Some(Arc {
-            target: self.below.arcs[e].target * self.moves.by_row.len() + step.row as usize,
+            target: self.below.arcs[e].target * self.moves.by_row.len() + usize::from(step.row),
             priority: step.priority,
         })
     }
@@ -106,16 +107,17 @@ impl Arena for Layer {
     }
 
     fn mover(&self, x: usize) -> Option<Player> {
-        match self.spot(x)? {
-            Spot::AtPosition { v, .. } => Some(self.below.positions[v].mover),
-            Spot::AtArc { .. } => Some(Player::Even),
+        if x < self.size() {
+            Some(self.below.mover(x / self.moves.by_row.len()))
+        } else {
+            None
         }
     }
 
     fn arc_count(&self, x: usize) -> Option<usize> {
         match self.spot(x)? {
             Spot::AtPosition { v, .. } => Some(self.below.positions[v].count),
-            Spot::AtArc { .. } => Some(self.moves.shape.registers + 1),
+            Spot::AtArc { .. } => Some(step_count(self.moves.shape)),
         }
     }
 

@@ -7,6 +7,7 @@ use arrayvec::ArrayVec;
 use game::Arc;
 
 // `arcs` are those of all positions, one after the other.
+// One list: the rules number the arcs through, and a list for each position would take 16 times the places
 #[derive(Drop)]
 pub(crate) struct Copied {
     pub(crate) top: u8,

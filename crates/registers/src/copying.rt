@@ -1,12 +1,13 @@
 // Copying an arena, and reading the copy.
 ghost use Rattle.std.specs.Prelude.{◌≡◌, ◌<◌, length};
-ghost use Rattle.registers.specs.Copies.{arc_number};
+ghost use Rattle.registers.specs.Copies.{arc_number, position_in};
 ghost use Rattle.registers.specs.Views.{Taken};
 
 use super::copied::Copied;
 use super::position::Position;
 use arena::{Arcs, Arena};
 use arrayvec::ArrayVec;
+use game::Player;
 
 impl Copied {
     // A copy of the arena, where it fits.
@@ -20,8 +21,9 @@ impl Copied {
         }
         let mut positions = ArrayVec::new();
         let mut arcs = ArrayVec::new();
+        // a loop: each position's arcs go behind those before it
         for v in 0..size {
-            let mover = arena.mover(v)?;
+            let mover = arena.mover(v).unwrap();
             let first = arcs.len();
             arcs.extend(Arcs::of(arena, v)).ok()?;
             positions.push(Position {
@@ -37,16 +39,23 @@ impl Copied {
         })
     }
 
+    // Who moves at a place of the layer: at a position as below, and Even behind the positions, at the arcs.
+    pub(crate) fn mover(&self, place: usize) -> Player
+        ensures { result ≡ (position_in self.now.positions.items self.now.arcs.items place).mover }
+    {
+        match self.positions.get(place) {
+            Some(position) => position.mover,
+            None => Player::Even,
+        }
+    }
+
     // The number of arc i of position v.
+    #[tactic(auto, using(crate::proofs::Reading::arcs_end))]
     pub(crate) fn number(&self, v: usize, i: usize) -> Option<usize>
         requires { v < length self.now.positions.items }
         ensures { result ≡ arc_number self.now.positions.items self.now.arcs.items v i }
     {
         let position = &self.positions[v];
-        if i < position.count {
-            Some(position.first + i)
-        } else {
-            None
-        }
+        (i < position.count).then(|| position.first + i)
     }
 }

@@ -8,7 +8,6 @@ mod moves;
 mod position;
 mod registers;
 mod row_moves;
-mod shape;
 mod spot;
 mod tables;
 

@@ -1,4 +1,5 @@
-// A position of the arena below: who moves there, the number of its first arc, and how many arcs it has.
+// A position of the arena below: who moves there, the number of its first arc, and how many arcs it has (all arcs are one list, as the
+// rules number them).
 use game::Player;
 
 #[derive(Clone, Copy, Drop)]

@@ -14,7 +14,7 @@ mod shape;
 mod table;
 
 pub use row::Row;
-use shape::Shape;
+pub use shape::Shape;
 pub use table::binomial;
 
 // How many rows there are of r registers with contents from 0 to top.

@@ -9,9 +9,9 @@ use crate::row::Row;
 use crate::table::entry;
 
 #[derive(Clone, Copy)]
-pub(crate) struct Shape {
-    pub(crate) registers: usize,
-    pub(crate) top: u8,
+pub struct Shape {
+    pub registers: usize,
+    pub top: u8,
     ghost some: { 1 ≤ registers },
     ghost few: { registers ≤ 5 },
     ghost low: { top ≤ 10 },
@@ -19,7 +19,7 @@ pub(crate) struct Shape {
 
 impl Shape {
     // The shape of r registers with contents from 0 to top, where rows have them.
-    pub(crate) fn new(r: usize, top: u8) -> Option<Shape>
+    pub fn new(r: usize, top: u8) -> Option<Shape>
         ensures range { is_some result ≡ in_range r top }
         ensures same { IfSome result (λ shape. (shape.registers ≡ r) × (shape.top ≡ top)) }
     {
@@ -30,7 +30,7 @@ impl Shape {
     }
 
     // How many rows there are.
-    pub(crate) fn count(self) -> usize
+    pub fn count(self) -> usize
         ensures { result ≡ choose (self.top + self.registers) self.registers }
     {
         entry(usize::from(self.top) + self.registers, self.registers)
@@ -58,7 +58,7 @@ impl Shape {
     }
 
     // Row number k: its contents are found from the last register down.
-    pub(crate) fn row(self, k: usize) -> Row
+    pub fn row(self, k: usize) -> Row
         requires { k < choose (self.top + self.registers) self.registers }
         ensures { slice_get (rows self.registers self.top) k ≡ Some (contents_of result) }
     {

@@ -40,7 +40,7 @@ fn table() -> &'static [[u16; 16]; 16]
     &BINOMIALS
 }
 
-// C(a, b), read from the table.
+// C(a, b), read from the table: as a `usize` with a bound beside it, here and in what is made of it, since rows are counted in `usize`.
 pub(crate) fn entry(a: usize, b: usize) -> usize
     requires left { a ≤ 15 }
     requires right { b ≤ 15 }

@@ -67,7 +67,7 @@ bit_low false = omega arith
 pub reached_by_marks : {new : List Bool} {ks : List ℕ} → MarksAdded (replicate 49 false) new ks → (k : ℕ) → k < 49 → occurrences k ks ≡ bit (get_or new k false)
 reached_by_marks {new} {ks} marks k h = let e = marks.each k h in let z = ap bit (get_or-replicate 49 k false false h) in omega arith
 
-comes_again : {s : List ℕ} {v k : ℕ} {mid new : List Bool} {sites : List Site} → Recorded s → v < positions s → AllRead s v mid sites → MarkedTwice s v mid new k → ComesAgain s k
+comes_again : {s : List ℕ} {v k : ℕ} {mid new : List Bool} {sites : List Site} → Recorded s → v < positions s → AllRead s v mid sites → MarkedTwice s (first_record s v) mid new k → ComesAgain s k
 comes_again {s} {v} {k} {new = new} recorded there all twice =
     let joint = marks_join all.marked twice.marked in
     let few = recorded.placed.headed.sized.few_records in
@@ -84,7 +84,7 @@ comes_again {s} {v} {k} {new = new} recorded there all twice =
       again = reached_by_marks joint k (omega arith) ∙ ap bit twice.again;
     }
 
-pub all_stop : {s : List ℕ} {v : ℕ} {mid : List Bool} (new : List Bool) {sites : List Site} → Recorded s → v < positions s → AllRead s v mid sites → (f : ReadFault) → Stopped (MarkedTwice s v mid new) f → Stopped (ComesAgain s) f
+pub all_stop : {s : List ℕ} {v : ℕ} {mid : List Bool} (new : List Bool) {sites : List Site} → Recorded s → v < positions s → AllRead s v mid sites → (f : ReadFault) → Stopped (MarkedTwice s (first_record s v) mid new) f → Stopped (ComesAgain s) f
 all_stop new recorded there all Memory h = tt
 all_stop new recorded there all (Refused Short) h = h
 all_stop new recorded there all (Refused Version) h = h

@@ -1,10 +1,10 @@
 -- Going along a chain, one record at a time.
-use Rattle.std.proofs.Common.{◌≡◌, ℕ, ◌+◌, ◌<◌, ◌≤◌, cond, eqb, Bool, true, false, not, count_by, List, [], ◌∷◌, ◌++◌, map, length, get_or, set, sym, refl, ap, ◌∙◌, inl, inr, add-zero, arith, length-set, get_or-set_other, get_or-set_same}
+use Rattle.std.proofs.Common.{◌≡◌, ℕ, ◌+◌, ◌<◌, ◌≤◌, cond, eqb, Bool, true, false, List, [], ◌∷◌, ◌++◌, map, length, get_or, set, sym, refl, ap, ◌∙◌, inl, inr, add-zero, arith, length-set, get_or-set_other, get_or-set_same}
 use Rattle.std.proofs.lemmas.List.{map-append}
-use Rattle.std.proofs.lemmas.List.Sums.{sum_by-append, sum_by-cons, sum_by-set}
+use Rattle.std.proofs.lemmas.List.Sums.{sum_by-append, sum_by-cons}
 use Rattle.std.proofs.lemmas.Bool.{cases_eq, eq-eqb, ne_eqb, true≢false}
 use Rattle.game.specs.declared.Arc.{Arc}
-use Rattle.sheet.specs.Layout.{positions, records, first_record, next_record, Recorded}
+use Rattle.sheet.specs.Layout.{records, next_record, Recorded}
 use Rattle.sheet.specs.Chains.{Leads, occurrences, arc_of}
 use Rattle.sheet.specs.Chains.Leads.{here, along}
 use Rattle.sheet.specs.Reading.{bit, MarksAdded}
@@ -47,37 +47,31 @@ marks_more old now ks k marks long within unmarked = record {
     sum_is true x y z w e h count itself = absurd (true≢false e)
     sum_is false x y z w e h count itself = omega arith
 
--- one record fewer is without a mark
-pub fewer_unmarked : (bs : List Bool) (k : ℕ) → k < length bs → get_or bs k false ≡ false → count_by not (set bs k true) < count_by not bs
-fewer_unmarked bs k h e =
-    let step = rw e at (sum_by-set (λ b. cond (not b) 1 0) bs k true false h) in
-    omega arith
-
--- How far the chain of position v has been gone along: to record reached, over records whose arcs are these.
-pub record UnderWay (s : List ℕ) (v : ℕ) (old now : List Bool) (reached : ℕ) (arcs : List Arc) : Type 0 where
+-- How far the chain that begins at record first has been gone along: to record reached, over records whose arcs are these.
+pub record UnderWay (s : List ℕ) (first : ℕ) (old now : List Bool) (reached : ℕ) (arcs : List Arc) : Type 0 where
   pub begun : List ℕ
-  pub leads : Leads s (first_record s v) begun reached
+  pub leads : Leads s first begun reached
   pub marked : MarksAdded old now begun
   pub arcs_are : arcs ≡ map (arc_of s) begun
   pub within : reached ≤ records s
   pub as_many : length now ≡ 49
 
-module _ (s : List ℕ) (v : ℕ) (recorded : Recorded s) where
-  pub way_begins : (old : List Bool) → v < positions s → length old ≡ 49 → UnderWay s v old old (first_record s v) []
+module _ (s : List ℕ) (first : ℕ) (recorded : Recorded s) where
+  pub way_begins : (old : List Bool) → first ≤ records s → length old ≡ 49 → UnderWay s first old old first []
   way_begins old there long = record {
     begun = [];
     leads = here;
     marked = record { each = λ k h. sym (add-zero (bit (get_or old k false))) };
     arcs_are = refl;
-    within = (recorded.placed.each_position v there).first;
+    within = there;
     as_many = long;
   }
 
   -- a record has a mark of its own
-  pub way_room : {old now : List Bool} {reached : ℕ} {arcs : List Arc} → UnderWay s v old now reached arcs → reached < 49
+  pub way_room : {old now : List Bool} {reached : ℕ} {arcs : List Arc} → UnderWay s first old now reached arcs → reached < 49
   way_room way = let h = way.within in let few = recorded.placed.headed.sized.few_records in omega arith
 
-  pub way_goes_on : {old now : List Bool} {reached : ℕ} {arcs : List Arc} → UnderWay s v old now reached arcs → 1 ≤ reached → get_or now reached false ≡ false → UnderWay s v old (set now reached true) (next_record s reached) (arcs ++ arc_of s reached ∷ [])
+  pub way_goes_on : {old now : List Bool} {reached : ℕ} {arcs : List Arc} → UnderWay s first old now reached arcs → 1 ≤ reached → get_or now reached false ≡ false → UnderWay s first old (set now reached true) (next_record s reached) (arcs ++ arc_of s reached ∷ [])
   way_goes_on {old} {now} {reached} way some unmarked = record {
     begun = way.begun ++ reached ∷ [];
     leads = leads_more way.leads some;

@@ -1,5 +1,5 @@
 -- What the steps of reading keep.
-use Rattle.std.specs.Prelude.{◌≡◌, ℕ, ◌+◌, ◌<◌, ◌≤◌, Bool, true, false, List, map, replicate, slice_index_or}
+use Rattle.std.specs.Prelude.{◌≡◌, ℕ, ◌+◌, ◌<◌, ◌≤◌, Bool, true, false, List, Option, IfSome, map, replicate, slice_index_or, unwrap_or}
 use Rattle.std.specs.List.{concat}
 use Rattle.game.specs.declared.Arc.{Arc}
 use Rattle.table.specs.Sites.{Site}
@@ -10,6 +10,14 @@ use Rattle.sheet.specs.Layout.{first_record}
 use Rattle.sheet.specs.Chains.{Leads, Chains, occurrences, arc_of, site_at, described}
 use Rattle.sheet.specs.Refusals.{Refuses}
 
+-- The number of a record, or 0 where there is none.
+abbrev pub number : Option ℕ → ℕ
+number found = unwrap_or found 0
+
+-- A record, if there is one, is numbered from 1.
+abbrev pub FromOne : Option ℕ → Type 0
+FromOne found = IfSome found (λ k. 1 ≤ k)
+
 abbrev pub bit : Bool → ℕ
 bit true = 1
 bit false = 0
@@ -18,17 +26,17 @@ bit false = 0
 pub record MarksAdded (old new : List Bool) (ks : List ℕ) : Type 0 where
   pub each : (k : ℕ) → k < 49 → bit (slice_index_or new k false) ≡ bit (slice_index_or old k false) + occurrences k ks
 
--- The chain of position v was read to its end.
-pub record ChainRead (s : List ℕ) (v : ℕ) (old new : List Bool) (arcs : List Arc) : Type 0 where
+-- The chain that begins at record first was read to its end.
+pub record ChainRead (s : List ℕ) (first : ℕ) (old new : List Bool) (arcs : List Arc) : Type 0 where
   pub chain : List ℕ
-  pub ended : Leads s (first_record s v) chain 0
+  pub ended : Leads s first chain 0
   pub marked : MarksAdded old new chain
   pub arcs_are : arcs ≡ map (arc_of s) chain
 
--- The chain of position v came to record k, which had a mark.
-pub record MarkedTwice (s : List ℕ) (v : ℕ) (old new : List Bool) (k : ℕ) : Type 0 where
+-- The chain that begins at record first came to record k, which had a mark.
+pub record MarkedTwice (s : List ℕ) (first : ℕ) (old new : List Bool) (k : ℕ) : Type 0 where
   pub begun : List ℕ
-  pub leads : Leads s (first_record s v) begun k
+  pub leads : Leads s first begun k
   pub record_there : 1 ≤ k
   pub marked : MarksAdded old new begun
   pub again : slice_index_or new k false ≡ true

@@ -64,6 +64,7 @@ pub enum ReadFault {
     Memory,
 }
 
+// by hand: a derived From has no contract
 impl From<SheetFault> for ReadFault {
     ghost from_gives = { λ e r. r ≡ Refused-sheet e };
 
@@ -72,6 +73,7 @@ impl From<SheetFault> for ReadFault {
     }
 }
 
+// by hand: two errors of the library give the one variant, which holds neither
 impl From<AllocError> for ReadFault {
     ghost from_gives = { λ e r. r ≡ Memory };
 

@@ -2,6 +2,7 @@
 ghost use Rattle.std.specs.Prelude.{◌≡◌, ◌<◌, ◌≤◌, ◌↔◌, IsTrue, MatchResult};
 ghost use Rattle.sheet.specs.Layout.{positions, records, mover_byte, first_record, name_bytes, priority_byte, target_byte, next_record, Headed, Placed, Recorded, PositionFits, RecordFits};
 ghost use Rattle.sheet.specs.Chains.{arc_of, mover_of};
+ghost use Rattle.sheet.specs.Reading.{number, FromOne};
 ghost use Rattle.sheet.specs.Refusals.{Refuses};
 
 use super::fault::SheetFault;
@@ -25,15 +26,30 @@ struct ArcRecord {
     next: u8,
 }
 
+// Whether a byte may stand in a name: a visible character, hex 21 to 7E.
+fn is_visible(byte: u8) -> bool
+    ensures { IsTrue result ↔ ((0x21 ≤ byte) × (byte ≤ 0x7E)) }
+{
+    byte.is_ascii_graphic()
+}
+
+// The record that a byte names: 0 names none.
+fn record_of(byte: u8) -> Option<usize>
+    ensures number { number result ≡ byte }
+    ensures from_one { FromOne result }
+{
+    (byte != 0).then_some(usize::from(byte))
+}
+
 // A sheet whose header is as it should be.
 #[derive(Clone, Copy)]
-pub struct HeadedSheet<'a> {
+pub(crate) struct HeadedSheet<'a> {
     bytes: &'a [u8],
     ghost headed: { Headed bytes.now },
 }
 
 impl<'a> HeadedSheet<'a> {
-    pub fn read(bytes: &'a [u8]) -> Result<HeadedSheet<'a>, SheetFault>
+    pub(crate) fn read(bytes: &'a [u8]) -> Result<HeadedSheet<'a>, SheetFault>
         ensures { MatchResult result (λ sheet. sheet.bytes.now ≡ bytes.now) (Refuses bytes.now) }
     {
         let [version, positions, records, reserved, ..] = bytes else {
@@ -42,8 +58,8 @@ impl<'a> HeadedSheet<'a> {
         if *version != 1 || *reserved != 0 {
             return Err(SheetFault::Version);
         }
-        let positions = *positions as usize;
-        let records = *records as usize;
+        let positions = usize::from(*positions);
+        let records = usize::from(*records);
         if positions > 16 || records > 48 {
             return Err(SheetFault::Large);
         }
@@ -56,13 +72,13 @@ impl<'a> HeadedSheet<'a> {
     fn positions(&self) -> usize
         ensures { result ≡ positions self.now.bytes.now }
     {
-        self.bytes[1] as usize
+        usize::from(self.bytes[1])
     }
 
     fn records(&self) -> usize
         ensures { result ≡ records self.now.bytes.now }
     {
-        self.bytes[2] as usize
+        usize::from(self.bytes[2])
     }
 
     // Position v, from 0.
@@ -101,8 +117,8 @@ impl<'a> HeadedSheet<'a> {
     {
         let record = self.position_record(v);
         Player::try_from(record.mover).is_ok()
-            && record.first as usize <= self.records()
-            && record.name.iter().all(|b| b.is_ascii_graphic())
+            && usize::from(record.first) <= self.records()
+            && record.name.iter().all(|b| is_visible(*b))
     }
 
     fn record_fits(&self, k: usize) -> bool
@@ -111,20 +127,21 @@ impl<'a> HeadedSheet<'a> {
     {
         let record = self.arc_record(k);
         record.priority <= 7
-            && (record.target as usize) < self.positions()
-            && record.next as usize <= self.records()
+            && usize::from(record.target) < self.positions()
+            && usize::from(record.next) <= self.records()
     }
 }
 
-// A sheet whose header and positions are as they should be.
+// A sheet whose header and positions are as they should be. (This reading and the next differ in what they test and what they make: a
+// common one would take both as arguments.)
 #[derive(Clone, Copy)]
-pub struct PlacedSheet<'a> {
+pub(crate) struct PlacedSheet<'a> {
     sheet: HeadedSheet<'a>,
     ghost placed: { Placed sheet.bytes.now },
 }
 
 impl<'a> PlacedSheet<'a> {
-    pub fn read(sheet: HeadedSheet<'a>) -> Result<PlacedSheet<'a>, SheetFault>
+    pub(crate) fn read(sheet: HeadedSheet<'a>) -> Result<PlacedSheet<'a>, SheetFault>
         ensures { MatchResult result (λ placed. placed.sheet.bytes.now ≡ sheet.entry.bytes.now) (Refuses sheet.entry.bytes.now) }
     {
         match (0..sheet.positions()).find(|v| !sheet.position_fits(*v)) {
@@ -134,15 +151,30 @@ impl<'a> PlacedSheet<'a> {
     }
 }
 
+// What a sheet says of a position: who moves there, its name, and the first record of its chain.
+#[derive(Clone, Copy)]
+pub(crate) struct SheetPosition {
+    pub(crate) mover: Player,
+    pub(crate) name: Name,
+    pub(crate) first_record: Option<usize>,
+}
+
+// What a sheet says of an arc record: its arc, and the record that comes after it in its chain.
+#[derive(Clone, Copy)]
+pub(crate) struct Link {
+    pub(crate) arc: Arc,
+    pub(crate) next: Option<usize>,
+}
+
 // A sheet whose header, positions and records are as they should be; the chains are another matter.
 #[derive(Clone, Copy)]
-pub struct RecordedSheet<'a> {
+pub(crate) struct RecordedSheet<'a> {
     sheet: HeadedSheet<'a>,
     ghost recorded: { Recorded sheet.bytes.now },
 }
 
 impl<'a> RecordedSheet<'a> {
-    pub fn read(placed: PlacedSheet<'a>) -> Result<RecordedSheet<'a>, SheetFault>
+    pub(crate) fn read(placed: PlacedSheet<'a>) -> Result<RecordedSheet<'a>, SheetFault>
         ensures { MatchResult result (λ recorded. recorded.sheet.bytes.now ≡ placed.entry.sheet.bytes.now) (Refuses placed.entry.sheet.bytes.now) }
     {
         let sheet = placed.sheet;
@@ -152,57 +184,49 @@ impl<'a> RecordedSheet<'a> {
         }
     }
 
-    pub fn positions(&self) -> usize
+    pub(crate) fn positions(&self) -> usize
         ensures { result ≡ positions self.now.sheet.bytes.now }
     {
         self.sheet.positions()
     }
 
-    pub fn records(&self) -> usize
+    pub(crate) fn records(&self) -> usize
         ensures { result ≡ records self.now.sheet.bytes.now }
     {
         self.sheet.records()
     }
 
-    pub fn mover(&self, v: usize) -> Player
+    // Position v, from 0.
+    pub(crate) fn position(&self, v: usize) -> SheetPosition
         requires { v < positions self.now.sheet.bytes.now }
-        ensures { result ≡ mover_of (mover_byte self.now.sheet.bytes.now v) }
+        ensures mover { result.mover ≡ mover_of (mover_byte self.now.sheet.bytes.now v) }
+        ensures name { result.name.bytes ≡ name_bytes self.now.sheet.bytes.now v }
+        ensures first { number result.first_record ≡ first_record self.now.sheet.bytes.now v }
+        ensures first_from_one { FromOne result.first_record }
     {
-        Player::try_from(self.sheet.position_record(v).mover).unwrap()
-    }
-
-    pub fn name(&self, v: usize) -> Name
-        requires { v < positions self.now.sheet.bytes.now }
-        ensures { result.bytes ≡ name_bytes self.now.sheet.bytes.now v }
-    {
-        let bytes = self.sheet.position_record(v).name;
-        Name { bytes }
-    }
-
-    // The first record of position v's chain.
-    pub fn first_record(&self, v: usize) -> usize
-        requires { v < positions self.now.sheet.bytes.now }
-        ensures { result ≡ first_record self.now.sheet.bytes.now v }
-    {
-        self.sheet.position_record(v).first as usize
-    }
-
-    pub fn arc(&self, k: usize) -> Arc
-        requires { (1 ≤ k) × (k ≤ records self.now.sheet.bytes.now) }
-        ensures { result ≡ arc_of self.now.sheet.bytes.now k }
-    {
-        let record = self.sheet.arc_record(k);
-        Arc {
-            target: record.target as usize,
-            priority: record.priority,
+        let record = self.sheet.position_record(v);
+        let bytes = record.name;
+        SheetPosition {
+            mover: Player::try_from(record.mover).unwrap(),
+            name: Name { bytes },
+            first_record: record_of(record.first),
         }
     }
 
-    // The record that comes after record k in its chain.
-    pub fn next_record(&self, k: usize) -> usize
+    // Arc record k, from 1.
+    pub(crate) fn link(&self, k: usize) -> Link
         requires { (1 ≤ k) × (k ≤ records self.now.sheet.bytes.now) }
-        ensures { result ≡ next_record self.now.sheet.bytes.now k }
+        ensures arc { result.arc ≡ arc_of self.now.sheet.bytes.now k }
+        ensures next { number result.next ≡ next_record self.now.sheet.bytes.now k }
+        ensures next_from_one { FromOne result.next }
     {
-        self.sheet.arc_record(k).next as usize
+        let record = self.sheet.arc_record(k);
+        Link {
+            arc: Arc {
+                target: usize::from(record.target),
+                priority: record.priority,
+            },
+            next: record_of(record.next),
+        }
     }
 }

@@ -6,10 +6,9 @@ ghost use Rattle.sheet.specs.Chains.{Describes};
 ghost use Rattle.sheet.specs.Reading.{Unread};
 ghost use Rattle.sheet.specs.Read.{Reads};
 
-use super::chains::all_positions;
+use super::chains::ChainReader;
 use super::fault::{ReadFault, SheetFault};
 use super::layout::{HeadedSheet, PlacedSheet, RecordedSheet};
-use super::marks::Marks;
 use std::alloc::Global;
 use table::{Position, Table};
 
@@ -34,9 +33,9 @@ fn positions_of(heap: Global, sheet: &[u8]) -> Result<Vec<Position>, ReadFault>
     let headed = HeadedSheet::read(sheet)?;
     let placed = PlacedSheet::read(headed)?;
     let recorded = RecordedSheet::read(placed)?;
-    let mut marks = Marks::none();
-    let positions = all_positions(heap, &recorded, &mut marks)?;
-    match marks.lowest_unmarked(recorded.records()) {
+    let mut reader = ChainReader::new(heap, recorded);
+    let positions = reader.all_positions()?;
+    match reader.lowest_unused() {
         Some(k) => Err(ReadFault::Refused(SheetFault::Unused(k))),
         None => Ok(positions),
     }

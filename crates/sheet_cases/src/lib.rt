@@ -8,7 +8,8 @@ use std::alloc::Global;
 use table::Table;
 use text::Fault;
 
-// What reading gives: the number and place of the refusal, or how many positions and arcs there are.
+// What reading gives: the number and place of the refusal, or how many positions and arcs there are; one flat value, so that the table
+// below can be read.
 #[derive(Clone, Copy, PartialEq, Eq, Debug)]
 enum Outcome {
     Refused(usize, usize),
@@ -115,6 +116,7 @@ mod tests {
         sheet[1] = 16;
         sheet[2] = 48;
         sheet[3] = 0;
+        // by index: the offsets are those of the format
         for v in 0..16usize {
             sheet[4 + 6 * v] = (v % 2) as u8;
             sheet[5 + 6 * v] = if v < 3 { 16 * v as u8 + 1 } else { 0 };

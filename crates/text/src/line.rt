@@ -17,6 +17,7 @@ pub fn refusal_line<F: Fault>(fault: &F, output: &mut [u8]) -> Result<usize, Out
     Ok(write_line(fault, output))
 }
 
+// no write!: into a lent slice it says nothing of the bytes written
 #[tactic(auto, using(crate::proofs::Joined::decimal_short))]
 fn write_line<F: Fault>(fault: &F, output: &mut [u8]) -> usize
     requires { 64 ≤ length output.old }

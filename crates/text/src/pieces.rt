@@ -5,6 +5,7 @@ ghost use Rattle.text.specs.Output.{Appended};
 use itoa::Buffer;
 
 // The text so far: the first `written` bytes of a lent output.
+// outputs are lent, so the length stands beside
 #[derive(Drop)]
 pub struct Text<'a> {
     pub output: &'a mut [u8],
@@ -21,13 +22,21 @@ impl<'a> Text<'a> {
         Text { output, written: 0 }
     }
 
+    // Where the text ends once the piece is added.
+    fn end_with(&self, piece: &[u8]) -> usize
+        requires { self.now.written + length piece.now ≤ length self.now.output.now }
+        ensures { result ≡ self.now.written + length piece.now }
+    {
+        self.written + piece.len()
+    }
+
     pub fn push(&mut self, piece: &[u8])
         requires { self.old.written + length piece.now ≤ length self.old.output.now }
         ensures same_reference { self.new.output.ghost_name ≡ self.old.output.ghost_name }
         ensures room { length self.new.output.now ≡ length self.old.output.now }
         ensures appended { Appended self.old.written piece.now self.old.output.now self.new.written self.new.output.now }
     {
-        let end = self.written + piece.len();
+        let end = self.end_with(piece);
         self.output[self.written..end].copy_from_slice(piece);
         self.written = end;
     }

@@ -10,4 +10,4 @@ pub returns : goal.returns
 returns g c = λ u w hu hw.
     let a = g.A.Arena.game c.args.self.now.arena.now in
     let h = c.of.ensures u w hu hw in
-    decides (related c.of.result u w) (MovesBetween a (plan_of a.size c.args.self.now.bytes.now) c.args.low c.args.high u w) (search (rules, tests))
+    decides (related c.of.result u w) (MovesBetween a (plan_of a.size c.args.self.now.bytes.now) c.args.by.low c.args.by.high u w) (search (rules, tests))

@@ -1,3 +1,4 @@
+use Rattle.std.proofs.Common.{Some, ap, ◌∙◌}
 use Rattle.registers.proofs.Replies.{reply_absent, count_at_position, count_at_arc}
 use Rattle.registers.proofs.answers.LayerArena.arc_count.Goals as goal
 
@@ -12,4 +13,4 @@ returns-in-AtPosition c =
 pub returns-in-AtArc : goal.returns-in-AtArc
 returns-in-AtArc c =
     let (inside, at, row) = rw c.in-AtArc.is at c.in_ok-v.ensures in
-    count_at_arc c.args.self.now c.args.x c.in-AtArc.e c.in-AtArc.row inside at row
+    ap Some c.step_count.ensures ∙ count_at_arc c.args.self.now c.args.x c.in-AtArc.e c.in-AtArc.row inside at row

@@ -1,4 +1,4 @@
-use Rattle.std.proofs.Common.{◌≡◌, length, lit<, ap, ◌∙◌, add-one, arith}
+use Rattle.std.proofs.Common.{◌≡◌, length, lit<, sym, ap, ◌∙◌, add-one, arith}
 use Rattle.std.proofs.lemmas.List.{length-append}
 use Rattle.registers.specs.Layer.{arcs_below}
 use Rattle.registers.proofs.Taking.{positions_counted, position_more, arcs_added, too_many, copy_spans, copy_inside, copy_fits, copy_alike}
@@ -11,7 +11,7 @@ push-requires g c =
 
 pub returns-in_err-ok : goal.returns-in_err-ok
 returns-in_err-ok g c =
-    rw c.from_residual-in_err-ok.ensures
+    rw c.from_residual.ensures
     (too_many g.A.Arena.game (g.A.Arena.game c.args.arena.now) c.loop-v.v (omega arith) c.of.result c.loop-v.arcs.items c.extend.new.self.items c.of.ensures c.loop-v.invariant.1 c.extend.result c.in_err-ok.ensures.variant c.extend.ensures.full c.extend.ensures.one_more)
 
 pub loop-v-preserved : goal.loop-v-preserved
@@ -22,7 +22,7 @@ loop-v-preserved g c =
     let before = ap length c.loop-v.invariant.1 in
     let after = ap length (all ∙ ap (arcs_below game) (add-one v)) in
     let more = length-append (arcs_below game v) (game.arcs v) in (
-      position_more game v c.loop-v.positions.items c.push.new.self.items c.in_ok-mover.mover _ _ c.loop-v.invariant.0 c.push.ensures.items c.in_ok-mover.ensures (omega arith) (omega arith),
+      position_more game v c.loop-v.positions.items c.push.new.self.items c.unwrap-mover.result _ _ c.loop-v.invariant.0 c.push.ensures.items (sym c.unwrap-mover.ensures ∙ c.mover.ensures) (omega arith) (omega arith),
       all,
       omega arith,
     )

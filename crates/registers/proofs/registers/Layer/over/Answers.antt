@@ -1,5 +1,5 @@
 use Rattle.std.proofs.Common.{ap, arith}
-use Rattle.registers.specs.declared.shape.Shape.{Shape}
+use Rattle.rows.specs.declared.shape.Shape.{Shape}
 use Rattle.registers.proofs.Alike.{registers_stand}
 use Rattle.registers.proofs.registers.Layer.over.Goals as goal
 

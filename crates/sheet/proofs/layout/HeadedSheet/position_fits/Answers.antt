@@ -3,8 +3,8 @@ use Rattle.std.proofs.iter.runs.Made.{chains}
 use Rattle.sheet.specs.Layout.{mover_byte, first_record, records, AllVisible}
 use Rattle.sheet.proofs.layout.HeadedSheet.position_fits.Goals as goal
 
-pub returns-then-record-records : goal.returns-then-record-records
-returns-then-record-records c =
+pub returns-then-from-records : goal.returns-then-from-records
+returns-then-from-records c =
     let s = c.args.self.now.bytes.now in
     let same = c.position_record-record.ensures.name in
     let name : IsTrue c.all.result ↔ AllVisible c.position_record-record.result.name = search (rules, chains) in

@@ -1,6 +1,6 @@
 use Rattle.std.proofs.Common.{◌≡◌}
 use Rattle.heights.specs.Sweeps.{swept_to, raises_to}
-use Rattle.heights.proofs.sweeps.Ascent.sweep.Given as goal
+use Rattle.heights.proofs.sweeps.Ascent.raise_low.Given as goal
 
 abbrev pub invariant-loop-v : goal.invariant-loop-v
 invariant-loop-v g l =

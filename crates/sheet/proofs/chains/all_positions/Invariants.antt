@@ -1,7 +1,0 @@
-use Rattle.std.proofs.Common.{vec_items}
-use Rattle.table.specs.Sites.{sites_of}
-use Rattle.sheet.specs.Reading.{AllRead}
-use Rattle.sheet.proofs.chains.all_positions.Given as goal
-
-abbrev pub invariant-loop-v : goal.invariant-loop-v
-invariant-loop-v l = AllRead l.sheet.sheet.bytes.now l.v l.marks.marked (sites_of (vec_items l.all))
