@@ -99,14 +99,16 @@ mod tests {
     ];
 
     #[test]
-    fn leaves_and_loses(rt: HostRuntime) {
+    fn leaves_and_loses(rt: HostRuntime) -> Result<(), Fail> {
         let mut table = Table::new(rt.alloc());
         assert!(rt; read_sheet(&mut table, rt.alloc(), &TWO_LOOPS).is_ok());
         let both = [0, 3, 0, 254, 255];
-        assert_eq!(rt; places(&table, &both), Some((Some(1), Some(0))));
+        let found = places(&table, &both).ok_or("no plan")?;
+        assert_eq!(rt; found, (Some(1), Some(0)));
         assert_eq!(rt; judging(&table, &both), Outcome::Leaves(1));
         assert_eq!(rt; judging(&table, &[0, 3, 0, 254, 0]), Outcome::Loses(0));
         assert_eq!(rt; judging(&table, &[0, 3, 255, 254, 0]), Outcome::Passes);
+        Ok(())
     }
 
     // Sixteen positions without arc records: each has a loop by which its mover loses.
