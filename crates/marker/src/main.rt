@@ -1,6 +1,8 @@
 // The marker: reads a sheet from standard input and prints the arena that it describes, or the refusal line.
 #![tactic(auto)]
 
+ghost use Rattle.std.specs.Prelude.{◌≤◌, length, IfOk};
+
 use arena::{Named, arc_total};
 use sheet::{ReadFault, SheetFault, read_sheet};
 use std::io;
@@ -9,18 +11,35 @@ use table::Table;
 use text::refusal_line;
 
 // How much of standard input is read.
-const LIMIT: u64 = 4096;
+const LIMIT: usize = 4096;
 
 fn main(rt: HostRuntime) -> anyhow::Result<()> {
-    let mut input = Vec::new(rt.alloc());
-    rt.stdin().take(LIMIT).read_to_end(&mut input)?;
+    let mut input = [0u8; LIMIT];
+    let count = read_input(&rt, &mut input)?;
     let mut table = Table::new(rt.alloc());
-    match read_sheet(&mut table, rt.alloc(), &input) {
+    match read_sheet(&mut table, rt.alloc(), &input[..count]) {
         Ok(()) => describe(&rt, &table)?,
         Err(ReadFault::Refused(fault)) => refuse(&rt, &fault)?,
         Err(fault @ ReadFault::Memory) => return Err(fault.into()),
     }
     Ok(())
+}
+
+// Fills the buffer from standard input, and replies how far. Nothing is taken from the heap (`read_to_end` would), so that a sheet that is
+// refused before its chains are read asks for no memory.
+fn read_input(rt: &HostRuntime, buffer: &mut [u8]) -> io::Result<usize>
+    ensures { IfOk result (λ n. n ≤ length buffer.new) }
+{
+    let mut input = rt.stdin();
+    let mut filled = 0;
+    for _ in 0..LIMIT {
+        let count = input.read(&mut buffer[filled..])?;
+        if count == 0 {
+            break;
+        }
+        filled += count;
+    }
+    Ok(filled)
 }
 
 // The line is written into a lent buffer, as the rules have it, so its length stands beside.

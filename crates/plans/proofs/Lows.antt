@@ -1,5 +1,5 @@
 -- The lowest position with a property.
-use Rattle.std.proofs.Common.{◌≡◌, ℕ, zero, suc, ◌+◌, ◌%◌, ◌<◌, ◌≤◌, min, ◌⊎◌, List, [], ◌∷◌, fold, Some, None, Option, sym, refl, ap, ◌∙◌, subst, inl, inr, arith}
+use Rattle.std.proofs.Common.{◌≡◌, ℕ, zero, suc, ◌+◌, ◌%◌, ◌<◌, ◌≤◌, min, ◌⊎◌, List, [], ◌∷◌, map, fold, Some, None, Option, sym, refl, ap, ◌∙◌, subst, inl, inr, arith}
 use Rattle.std.proofs.lemmas.Option.{none-some, same_Some}
 use Rattle.std.specs.List.{filter_map, cons_option, reduce, range_with_len}
 use Rattle.std.proofs.lemmas.Bool.{cases_eq, cases_lt, cases_order}
@@ -8,7 +8,7 @@ use Rattle.game.specs.Plans.{Plan, highest}
 use Rattle.toolkit.proofs.Search.{seek_least}
 use Rattle.toolkit.proofs.Walks.{highest_at_most}
 use Rattle.plans.specs.Marks.{Lowest, Found, OnLosingWalk}
-use Rattle.plans.specs.Findings.{ClosedWalkAt, LosingWalkAt}
+use Rattle.plans.specs.Findings.{ClosedWalkAt, LosingWalkAt, lower_of}
 use Rattle.plans.proofs.Following.{move_low}
 
 pub one_lowest : {P : ℕ → Type 0} {a b : ℕ} → Lowest P a → Lowest P b → a ≡ b
@@ -91,6 +91,27 @@ module _ (h : ℕ → Option ℕ) where
 -- The least of the positions that h gives for the priorities up to top.
 abbrev pub losing : ℕ → (ℕ → Option ℕ) → Option ℕ
 losing top h = reduce min (filter_map h (range_with_len 0 (top + 1)))
+
+module _ (h : ℕ → Option ℕ) where
+  lower_than : (x : ℕ) (qs : List ℕ) → fold lower_of (Some x) (map h qs) ≡ Some (fold min x (filter_map h qs))
+  lower_than x [] = refl
+  lower_than x (q ∷ qs) = at (h q) (λ y. lower_than y qs)
+    where
+      at : (o : Option ℕ) → ((y : ℕ) → fold lower_of (Some y) (map h qs) ≡ Some (fold min y (filter_map h qs))) → fold lower_of (lower_of (Some x) o) (map h qs) ≡ Some (fold min x (cons_option o (filter_map h qs)))
+      at None rest = rest x
+      at (Some y) rest = rest (min x y)
+
+  -- one after the other, the lower of what h gives is the least of it
+  lowest_in_turn : (qs : List ℕ) → fold lower_of None (map h qs) ≡ reduce min (filter_map h qs)
+  lowest_in_turn [] = refl
+  lowest_in_turn (q ∷ qs) = at (h q) (lowest_in_turn qs)
+    where
+      at : (o : Option ℕ) → fold lower_of None (map h qs) ≡ reduce min (filter_map h qs) → fold lower_of (lower_of None o) (map h qs) ≡ reduce min (cons_option o (filter_map h qs))
+      at None rest = rest
+      at (Some y) rest = lower_than y qs
+
+  pub losing_in_turn : (top : ℕ) → fold lower_of None (map h (range_with_len 0 (top + 1))) ≡ losing top h
+  losing_in_turn top = lowest_in_turn (range_with_len 0 (top + 1))
 
 -- Where h gives each priority's lowest position on a losing walk with that highest priority, it is the lowest position of all losing walks.
 module _ (g : Game) (s : Plan) (laws : Lawful g) (h : ℕ → Option ℕ) (exact : (q : ℕ) → Found (LosingWalkAt g s q) (h q)) where

@@ -1,5 +1,5 @@
 -- What the steps of judging find.
-use Rattle.std.specs.Prelude.{◌≡◌, ℕ, ◌%◌, ◌<◌, ◌≤◌, Bool, true, false, List, ◌∷◌, Decides, MatchBool}
+use Rattle.std.specs.Prelude.{◌≡◌, ℕ, ◌%◌, ◌<◌, ◌≤◌, Bool, true, false, List, ◌∷◌, Option, Some, None, min, Decides, MatchBool}
 use Rattle.game.specs.declared.Arc.{Arc}
 use Rattle.game.specs.Game.{Game, parity, rival}
 use Rattle.game.specs.Plans.{Plan, Follows, Walk, highest}
@@ -36,3 +36,9 @@ pub record ClosedWalkAt (g : Game) (s : Plan) (q v : ℕ) : Type 0 where
 pub record LosingWalkAt (g : Game) (s : Plan) (q v : ℕ) : Type 0 where
   pub wrong : q % 2 ≡ parity (rival s.player)
   pub closed : ClosedWalkAt g s q v
+
+-- The lower of two positions, where there are any.
+abbrev pub lower_of : Option ℕ → Option ℕ → Option ℕ
+lower_of None b = b
+lower_of (Some x) None = Some x
+lower_of (Some x) (Some y) = Some (min x y)

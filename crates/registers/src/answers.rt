@@ -13,32 +13,28 @@ use game::{Arc, Player};
 use rows::Shape;
 
 impl Registers {
-    // The layer of r registers over an arena, which is asked now and not again.
+    // The layer of r registers over an arena, which is asked now and not again. Each way out makes the value whole: a layer handed on by
+    // itself would be copied, about 112 KB, also where there is none.
     pub fn over<A: Arena>(arena: &A, r: usize) -> Registers
         ensures { game_of result ≡ registers r (A.game arena.now) }
     {
+        if r == 0 || r > 5 {
+            return Registers { layer: None };
+        }
+        let Some(below) = Copied::of(arena) else {
+            return Registers { layer: None };
+        };
+        let moves = Moves::new(Shape {
+            registers: r,
+            top: below.top,
+        });
         Registers {
-            layer: Layer::over(arena, r),
+            layer: Some(Layer { below, moves }),
         }
     }
 }
 
 impl Layer {
-    // The layer where it stands.
-    fn over<A: Arena>(arena: &A, r: usize) -> Option<Layer>
-        ensures { layer_of result ≡ registers r (A.game arena.now) }
-    {
-        if r == 0 || r > 5 {
-            return None;
-        }
-        let below = Copied::of(arena)?;
-        let moves = Moves::new(Shape {
-            registers: r,
-            top: below.top,
-        });
-        Some(Layer { below, moves })
-    }
-
     // How many positions and arcs the arena below has together: they are the places of the layer, each with every row.
     fn places(&self) -> usize
         ensures { result ≡ length self.now.below.positions.items + length self.now.below.arcs.items }

@@ -8,21 +8,30 @@ use Rattle.rows.proofs.Binomials.{choose_over, choose_both}
 use Rattle.rows.proofs.Numbering.{row_listed}
 use Rattle.rows.proofs.Held.{zeros_row}
 
--- no more than k rows begin with less than n, if this is so up to each content below n
-no_more_before : (r k n : ℕ) → 1 ≤ r → ((c : ℕ) → c < n → choose (c + 1 + r - 1) r ≤ k) → choose (n + r - 1) r ≤ k
-no_more_before r k zero some h = let z = choose_over (0 + r - 1) r (omega arith) in omega arith
-no_more_before r k (suc n) some h =
-    let e = choose_both (n + 1 + r - 1) (suc n + r - 1) r r (omega arith) refl in
+-- What is found from the top down: the first content with which no more than k rows begin with less, so many below the top, or 0.
+abbrev pub FoundDown : ℕ → ℕ → ℕ → Option ℕ → Type 0
+FoundDown r k top o = MatchOption o ((d : ℕ) → 0 ≤ d → d < top → k < choose (top - d + r - 1) r)
+    (λ n. (0 ≤ n) × (n < top) × (choose (top - n + r - 1) r ≤ k) × ((d : ℕ) → 0 ≤ d → d < n → k < choose (top - d + r - 1) r))
+
+pub first_reached : (r k top : ℕ) (o : Option ℕ) → 1 ≤ r → FoundDown r k top o → choose (top - unwrap_or o top + r - 1) r ≤ k
+first_reached r k top None some h = let z = choose_over (top - top + r - 1) r (omega arith) in omega arith
+first_reached r k top (Some n) some h = h.2
+
+pub down_inside : (r k top : ℕ) (o : Option ℕ) → FoundDown r k top o → unwrap_or o top ≤ top
+down_inside r k top None h = omega arith
+down_inside r k top (Some n) h = let l = h.1 in omega arith
+
+-- more than k rows begin with it or with less: so it is where nothing was passed over, and where the last content passed over says so
+passed_by : (r k top n : ℕ) → n ≤ top → k < choose (top + r) r → ((d : ℕ) → d < n → k < choose (top - d + r - 1) r) → k < choose (top - n + r) r
+passed_by r k top zero low inside h = let e = choose_both (top - 0 + r) (top + r) r r (omega arith) refl in omega arith
+passed_by r k top (suc n) low inside h =
     let l = h n (omega arith) in
+    let e = choose_both (top - suc n + r) (top - n + r - 1) r r (omega arith) refl in
     omega arith
 
--- so with less than the first content that is found, or than the top
-pub first_reached : (r k top : ℕ) (o : Option ℕ) → 1 ≤ r →
-    MatchOption o ((c : ℕ) → 0 ≤ c → c < top → choose (c + 1 + r - 1) r ≤ k)
-    (λ n. (0 ≤ n) × (n < top) × Unit {0} × ((c : ℕ) → 0 ≤ c → c < n → choose (c + 1 + r - 1) r ≤ k)) →
-    choose (unwrap_or o top + r - 1) r ≤ k
-first_reached r k top None some h = no_more_before r k top some (λ c l. h c (omega arith) l)
-first_reached r k top (Some n) some h = no_more_before r k n some (λ c l. h.3 c (omega arith) l)
+pub first_passed : (r k top : ℕ) (o : Option ℕ) → k < choose (top + r) r → FoundDown r k top o → k < choose (top - unwrap_or o top + r) r
+first_passed r k top None inside h = passed_by r k top top (omega arith) inside (λ d l. h d (omega arith) l)
+first_passed r k top (Some n) inside h = let l = h.1 in passed_by r k top n (omega arith) inside (λ d m. h.3 d (omega arith) m)
 
 -- what stands before place i: the top before the first place
 abbrev pub bound : ℕ → List ℕ → ℕ → ℕ

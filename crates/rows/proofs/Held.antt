@@ -28,28 +28,17 @@ zeros_row t (suc n) = (omega arith, zeros_row 0 n)
 pub registers_true : (r : ℕ) → 1 ≤ r → r ≤ 5 → some_registers r ≡ true
 registers_true r h k = and_from (leb 1 r) (leb r 5) (le-leb 1 r h) (le-leb r 5 k)
 
--- an array that a closure makes of another, where each call gives h of its entry and leaves the closure as it was
-module _ {F : Type 0} (g : Mut F (ℕ × Unit {0}) ℕ) (h : ℕ → ℕ) (f : F) (xs ys : List ℕ)
-    (calls : (x y : ℕ) (q : F) → Called g f (x, tt) y q → (q ≡ f) × (y ≡ h x)) where
-  mapped_at : (i n : ℕ) → MapsFrom g f xs ys i n → (k : ℕ) → i ≤ k → k < i + n → get_or ys k 0 ≡ h (get_or xs k 0)
-  mapped_at i zero m k low high = absurd (omega arith)
-  mapped_at i (suc n) m k low high =
-      let called = calls m.1 m.2 m.0 m.5 in elim (cases_eq k i) [
-        | inl at ↦ rw at (m.4.1 0 ∙ called.1 ∙ ap h (sym (m.3.1 0)))
-        | inr on ↦ mapped_at (i + 1) n (subst (λ q. MapsFrom g q xs ys (i + 1) n) called.0 m.6) k (omega arith) (omega arith)
-      ]
-
-  pub mapped : (n : ℕ) → IsMapOf g f xs ys n → length xs ≡ n → ys ≡ map h xs
-  mapped n w e =
-      let long = w.long in
-      let l = length-map xs h in
-      same_number_lists ys (map h xs) (omega arith) (λ k within. mapped_at 0 n w.each k (omega arith) (omega arith) ∙ sym (get_or-map h xs k 0 0 (omega arith)))
+-- an array whose entries are those of another, each raised to p
+raised_all : (n p : ℕ) (xs ys : List ℕ) → length xs ≡ n → length ys ≡ n → ((i : ℕ) → i < n → get_or ys i 0 ≡ max (get_or xs i 0) p) → ys ≡ map (λ c. max c p) xs
+raised_all n p xs ys whole long each =
+    let l = length-map xs (λ c. max c p) in
+    same_number_lists ys (map (λ c. max c p) xs) (omega arith) (λ k within. each k (omega arith) ∙ sym (get_or-map (λ c. max c p) xs k 0 0 (omega arith)))
 
 -- so for the row after an update
-pub updated_held : (n p : ℕ) (xs ys : List ℕ) → n ≤ length xs → p ≤ 10 → ∥ IsRow 10 (take n xs) ∥₁ → ys ≡ map (λ c. max c p) xs →
+pub updated_held : (n p : ℕ) (xs ys : List ℕ) → n ≤ 5 → p ≤ 10 → ∥ IsRow 10 (take n xs) ∥₁ → length xs ≡ 5 → length ys ≡ 5 → ((i : ℕ) → i < 5 → get_or ys i 0 ≡ max (get_or xs i 0) p) →
     ∥ IsRow 10 (take n ys) ∥₁ × (Some (take n ys) ≡ cond (leb p 10) (Some (updated p (take n xs))) None)
-updated_held n p xs ys fits low row e =
-    let new : take n ys ≡ updated p (take n xs) = rw e (take-map (λ c. max c p) n xs) in (
+updated_held n p xs ys few low row whole long each =
+    let new : take n ys ≡ updated p (take n xs) = rw (raised_all 5 p xs ys whole long each) (take-map (λ c. max c p) n xs) in (
       ∣ rw new (updated_row 10 p (take n xs) (row_told 10 (take n xs) row) low) ∣₁,
       ap Some new ∙ sym (cond-true (leb p 10) _ _ (le-leb p 10 low)),
     )

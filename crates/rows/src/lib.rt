@@ -1,7 +1,7 @@
 // Rows of registers: their numbering, and what updates and resets do to them.
 #![tactic(auto)]
 
-ghost use Rattle.std.specs.Prelude.{◌≡◌, ℕ, [], ◌∷◌, ◌++◌, ◌+◌, ◌-◌, ◌^◌, ◌<◌, ◌≤◌, if◌then◌else◌, length, replicate, Some, None, nat_le, slice_index};
+ghost use Rattle.std.specs.Prelude.{◌≡◌, ℕ, [], ◌∷◌, ◌++◌, ◌+◌, ◌-◌, ◌^◌, ◌<◌, ◌≤◌, if◌then◌else◌, length, max, replicate, Some, None, nat_le, slice_index};
 ghost use Rattle.std.specs.List.{remove, slice_get};
 ghost use Rattle.rows.specs.Choose.{choose};
 ghost use Rattle.rows.specs.Rows.{IsRow, rows, place};
@@ -15,6 +15,7 @@ mod table;
 
 pub use row::Row;
 pub use shape::Shape;
+use std::array;
 pub use table::binomial;
 
 // How many rows there are of r registers with contents from 0 to top.
@@ -32,6 +33,15 @@ fn take_out(contents: &mut [u8], index: usize)
 {
     contents[index] = 0;
     contents[index..].rotate_left(1);
+}
+
+// Contents, each raised to p where it is lower.
+fn raised(contents: [u8; 5], p: u8) -> [u8; 5]
+    requires { length contents ≡ 5 }
+    ensures whole { length result ≡ 5 }
+    ensures each { (i : ℕ) → i < 5 → slice_index result i ≡ max (slice_index contents i) p }
+{
+    array::from_fn(|i| contents[i].max(p))
 }
 
 impl Row {
@@ -100,7 +110,7 @@ impl Row {
         if p > 10 {
             return None;
         }
-        self.contents = self.contents.map(|c| c.max(p));
+        self.contents = raised(self.contents, p);
         Some(self)
     }
 

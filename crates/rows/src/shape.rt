@@ -52,9 +52,11 @@ impl Shape {
         ensures reached { choose (result + self.registers - 1) self.registers ≤ k }
         ensures passed { k < choose (result + self.registers) self.registers }
     {
-        (0..self.top)
-            .find(|c| k < self.before(c + 1))
-            .unwrap_or(self.top)
+        // from the top down: the contents of a row fall, so what is passed over here is tried for no later register
+        let passed_over = (0..self.top)
+            .find(|d| self.before(self.top - d) <= k)
+            .unwrap_or(self.top);
+        self.top - passed_over
     }
 
     // Row number k: its contents are found from the last register down.

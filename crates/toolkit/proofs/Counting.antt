@@ -1,6 +1,6 @@
 -- The laws of counting and adding up below a number.
-use Rattle.std.proofs.Common.{◌≡◌, ℕ, zero, suc, ◌+◌, ◌*◌, ◌<◌, ◌≤◌, Bool, true, false, ◌||◌, refl, ap₂, suc-mul, arith}
-use Rattle.std.proofs.lemmas.Bool.{both_ways}
+use Rattle.std.proofs.Common.{◌≡◌, ℕ, zero, suc, ◌+◌, ◌*◌, ◌<◌, ◌≤◌, Bool, true, false, not, ◌||◌, refl, ap, ap₂, inl, inr, suc-mul, arith}
+use Rattle.std.proofs.lemmas.Bool.{cases_Bool, cases_eq, both_ways}
 use Rattle.toolkit.specs.Finite.{bit, count, sum}
 
 pub bit_of_true : (b : Bool) → b ≡ true → bit b ≡ 1
@@ -74,3 +74,43 @@ pub sum_at_most : (n b : ℕ) (f : ℕ → ℕ) → ((i : ℕ) → i < n → f i
 unfolding sum
 sum_at_most zero b f h = omega arith
 sum_at_most (suc n) b f h = grind (arith, sum_at_most n b f (λ i l. h i (omega arith)), h n, suc-mul)
+
+-- a count of n says that everything below n passes
+pub count_all : (n : ℕ) (test : ℕ → Bool) → count n test ≡ n → (k : ℕ) → k < n → test k ≡ true
+count_all n test h k l = elim (cases_Bool (test k)) [
+  | inl e ↦ e
+  | inr e ↦
+      let more = count_strict n test (λ i. true) k (λ i l e. refl) l e refl in
+      let top = count_at_most n (λ i. true) in
+      absurd (omega arith)
+]
+
+-- the elements inside and those outside are all of them
+pub count_complement : (n : ℕ) (test : ℕ → Bool) → count n test + count n (λ i. not (test i)) ≡ n
+unfolding count
+count_complement zero test = refl
+count_complement (suc n) test = omega (arith, count_complement n test, both (test n))
+  where
+    both : (b : Bool) → bit b + bit (not b) ≡ 1
+    both true = refl
+    both false = refl
+
+pub sum_extensional : (n : ℕ) (f g : ℕ → ℕ) → ((i : ℕ) → i < n → f i ≡ g i) → sum n f ≡ sum n g
+unfolding sum
+sum_extensional zero f g h = refl
+sum_extensional (suc n) f g h = ap₂ (λ a b. a + b) (h n (omega arith)) (sum_extensional n f g (λ i l. h i (omega arith)))
+
+-- a count is a sum of ones and zeros
+pub count_sum : (n : ℕ) (test : ℕ → Bool) → count n test ≡ sum n (λ i. bit (test i))
+unfolding count sum
+count_sum zero test = refl
+count_sum (suc n) test = ap (λ m. bit (test n) + m) (count_sum n test)
+
+-- each term is at most the sum
+pub sum_term : (n : ℕ) (f : ℕ → ℕ) (k : ℕ) → k < n → f k ≤ sum n f
+unfolding sum
+sum_term zero f k l = absurd (omega arith)
+sum_term (suc n) f k l = elim (cases_eq k n) [
+  | inl e ↦ rw e (omega arith)
+  | inr apart ↦ let more = sum_term n f k (omega arith) in omega arith
+]

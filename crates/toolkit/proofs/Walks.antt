@@ -1,6 +1,6 @@
 -- Walks by moves of any kind.
 use Rattle.std.proofs.Common.{◌≡◌, ℕ, zero, suc, ◌+◌, ◌<◌, ◌≤◌, max, Bool, true, false, ◌⊎◌, List, [], ◌∷◌, ◌++◌, refl, ap, ◌∙◌, subst, inl, inr, arith}
-use Rattle.std.specs.List.{AllZip}
+use Rattle.std.specs.List.{AllZip, AllByRecursion as All}
 use Rattle.std.proofs.lemmas.Bool.{cases_Bool, cases_lt, both_ways}
 use Rattle.game.specs.Plans.{Walk, highest}
 use Rattle.game.specs.Plans.Walk.{stay, step}
@@ -10,6 +10,14 @@ use Rattle.toolkit.proofs.Pigeonhole.{comes_back}
 pub highest_append : (ps qs : List ℕ) → highest (ps ++ qs) ≡ max (highest ps) (highest qs)
 highest_append [] qs = omega arith
 highest_append (p ∷ ps) qs = omega (arith, highest_append ps qs)
+
+pub highest_from_all : (b : ℕ) (ps : List ℕ) → All (λ p. p ≤ b) ps → highest ps ≤ b
+highest_from_all b [] h = omega arith
+highest_from_all b (p ∷ ps) h = omega (arith, h.0, highest_from_all b ps h.1)
+
+pub all_from_highest : (b : ℕ) (ps : List ℕ) → highest ps ≤ b → All (λ p. p ≤ b) ps
+all_from_highest b [] h = tt
+all_from_highest b (p ∷ ps) h = (omega arith, all_from_highest b ps (omega arith))
 
 -- the highest of priorities that are each one more is one more
 pub highest_raised : (p q : ℕ) (ps qs : List ℕ) → AllZip (λ a b. b ≡ a + 1) (p ∷ ps) (q ∷ qs) → highest (q ∷ qs) ≡ highest (p ∷ ps) + 1
@@ -28,6 +36,11 @@ module _ {Move : ℕ → ℕ → ℕ → Type 0} where
   pub walk_joined : {u v w : ℕ} {ps qs : List ℕ} → Walk Move u v ps → Walk Move v w qs → Walk Move u w (ps ++ qs)
   walk_joined stay more = more
   walk_joined (step m walk) more = step m (walk_joined walk more)
+
+  -- a walk whose priorities are two lists in a row is two walks
+  pub walk_parts : (ps qs : List ℕ) {u w : ℕ} → Walk Move u w (ps ++ qs) → (v : ℕ) × Walk Move u v ps × Walk Move v w qs
+  walk_parts [] qs {u} walk = (u, stay, walk)
+  walk_parts (p ∷ ps) qs (step m walk) = let parts = walk_parts ps qs walk in (parts.0, step m parts.1, parts.2)
 
   pub walk_mapped : {Other : ℕ → ℕ → ℕ → Type 0} {u w : ℕ} {ps : List ℕ} → ((a b p : ℕ) → Move a b p → Other a b p) → Walk Move u w ps → Walk Other u w ps
   walk_mapped f stay = stay
@@ -183,3 +196,39 @@ module _ {Move : ℕ → ℕ → ℕ → Type 0} where
   peak_low peak =
       let e = peak.is_highest ∙ ap highest peak.parts ∙ highest_append peak.before (peak.top ∷ peak.behind) in
       (omega arith, omega arith)
+
+-- A walk taken apart where it visits a position of a set.
+pub record Visit (Move : ℕ → ℕ → ℕ → Type 0) (set : ℕ → Bool) (u w : ℕ) (ps : List ℕ) : Type 0 where
+  pub place : ℕ
+  pub inside : set place ≡ true
+  pub before : List ℕ
+  pub behind : List ℕ
+  pub walk_before : Walk Move u place before
+  pub walk_behind : Walk Move place w behind
+  pub parts : ps ≡ before ++ behind
+
+module _ {Move : ℕ → ℕ → ℕ → Type 0} (set : ℕ → Bool) where
+  visit_now : {u w : ℕ} {ps : List ℕ} → Walk Move u w ps → set u ≡ true → Visit Move set u w ps
+  visit_now {u} {ps = ps} walk inside = record { place = u; inside = inside; before = []; behind = ps; walk_before = stay; walk_behind = walk; parts = refl }
+
+  visit_later : {u v w p : ℕ} {ps : List ℕ} → Move u v p → Visit Move set v w ps → Visit Move set u w (p ∷ ps)
+  visit_later {p = p} m visit = record {
+    place = visit.place;
+    inside = visit.inside;
+    before = p ∷ visit.before;
+    behind = visit.behind;
+    walk_before = step m visit.walk_before;
+    walk_behind = visit.walk_behind;
+    parts = ap (λ qs. p ∷ qs) visit.parts;
+  }
+
+  -- a walk visits the set, or is by moves outside it from beginning to end
+  pub visits_or_avoids : {u w : ℕ} {ps : List ℕ} → Walk Move u w ps → Visit Move set u w ps ⊎ ((set u ≡ false) × Walk (λ a b p. Move a b p × (set a ≡ false) × (set b ≡ false)) u w ps)
+  visits_or_avoids (stay {v = v}) = elim (cases_Bool (set v)) [ inl inside ↦ inl (visit_now stay inside) | inr out ↦ inr (out, stay) ]
+  visits_or_avoids (step {u = u} m walk) = elim (cases_Bool (set u)) [
+    | inl inside ↦ inl (visit_now (step m walk) inside)
+    | inr out ↦ elim (visits_or_avoids walk) [
+      | inl visit ↦ inl (visit_later m visit)
+      | inr avoids ↦ inr (out, step (m, out, avoids.0) avoids.1)
+    ]
+  ]

@@ -5,7 +5,7 @@ use Rattle.plans.specs.Marks.{StepsOut}
 use Rattle.plans.proofs.Following.{move_from_inside}
 use Rattle.plans.proofs.Lows.{found_alike}
 use Rattle.plans.proofs.Searches.{found_first}
-use Rattle.plans.proofs.plan.FormedPlan.leaves_at.Goals as goal
+use Rattle.plans.proofs.plan.FormedPlan.first_out.Goals as goal
 
 pub returns : goal.returns
 returns g c =
